@@ -1,0 +1,4 @@
+pub mod Kinds
+pub mod Shape
+pub mod Open
+pub mod View
