@@ -1,7 +1,8 @@
 // The 48 kinds of node: the children that each has and the word that it carries, as one table.
 ghost use Prim.Native.Nat.{ℕ, _+_, _≤_};
 ghost use mathlib.Core.Path.{_≡_};
-ghost use Rattle.table.specs.Kinds.{admits, fits, row-of, list-row-of, number-of, word-of};
+ghost use lib.Dec.{eqb};
+ghost use Rattle.table.specs.Kinds.{admits, between, fits, row-of, list-row-of, number-of, word-of};
 
 // A node of a batch, as it is handed in.
 #[repr(C)]
@@ -218,6 +219,28 @@ pub(super) fn list_row_of(word: u64) -> ListRow
     LISTS[word as usize - 1]
 }
 
+impl Kind {
+    fn number(self) -> u8
+        ensures { λ r. ⌜ r ≡ number-of self ⌝ }
+    {
+        self as u8
+    }
+}
+
+impl Node {
+    pub(super) fn is(self, kind: Kind) -> bool
+        ensures { λ r. ⌜ r ≡ eqb (self .kind) (number-of kind) ⌝ }
+    {
+        self.kind == kind.number()
+    }
+
+    fn is_between(self, low: Kind, high: Kind) -> bool
+        ensures { λ r. ⌜ r ≡ between (number-of low) (number-of high) (self .kind) ⌝ }
+    {
+        low.number() <= self.kind && self.kind <= high.number()
+    }
+}
+
 impl Listed {
     fn word(self) -> u64
         ensures { λ r. ⌜ r ≡ word-of self ⌝ }
@@ -230,22 +253,21 @@ impl Class {
     pub(super) fn admits(self, node: Node) -> bool
         ensures { λ r. ⌜ r ≡ admits self node ⌝ }
     {
-        let kind = node.kind;
         match self {
-            Class::Name => kind == 48,
-            Class::Expression => kind >= 19 && kind <= 48,
-            Class::Instruction => kind >= 13 && kind <= 48,
-            Class::Target => kind >= 47 && kind <= 48,
-            Class::Initializer => kind >= 8 && kind <= 9,
-            Class::Body => kind == 10,
-            Class::MainBlock => kind >= 11 && kind <= 12,
-            Class::OneClass => kind == 3,
-            Class::OneField => kind == 4,
-            Class::OneMethod => kind == 5,
-            Class::OneParam => kind == 6,
-            Class::OneVar => kind == 7,
-            Class::ListOf(list) => kind == 2 && node.word == list.word(),
             Class::Nothing => false,
+            Class::Name => node.is(Kind::Identifier),
+            Class::Expression => node.is_between(Kind::Assign, Kind::Identifier),
+            Class::Instruction => node.is_between(Kind::Print, Kind::Identifier),
+            Class::Target => node.is_between(Kind::Selection, Kind::Identifier),
+            Class::Initializer => node.is_between(Kind::Initialization, Kind::NoInitialization),
+            Class::Body => node.is(Kind::MethodBody),
+            Class::MainBlock => node.is_between(Kind::Main, Kind::EmptyMain),
+            Class::OneClass => node.is(Kind::DeclClass),
+            Class::OneField => node.is(Kind::DeclField),
+            Class::OneMethod => node.is(Kind::DeclMethod),
+            Class::OneParam => node.is(Kind::DeclParam),
+            Class::OneVar => node.is(Kind::DeclVar),
+            Class::ListOf(list) => node.is(Kind::List) && node.word == list.word(),
         }
     }
 }

@@ -129,7 +129,8 @@ fn is_placed(nodes: &[Node], p: usize) -> bool
     ensures { λ r. ⌜ Decides r (Placed (now (nodes .entry)) p) ⌝ }
 {
     let node = nodes[p];
-    if p == 0 && (node.kind != 1 || node.size as usize != nodes.len()) {
+    let size = node.size as usize;
+    if p == 0 && (!node.is(Kind::Program) || size != nodes.len()) {
         return false;
     }
     is_laid(nodes, p)
