@@ -1,0 +1,6 @@
+use borrow.Author.Needs.{needs}
+use Rattle.values.proofs.Wraps.{quotient-wraps}
+use Rattle.values.proofs.ints.quotient.Needs as need
+
+pub returns : need.returns
+returns c = search (needs, quotient-wraps)
