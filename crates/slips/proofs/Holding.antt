@@ -28,11 +28,6 @@ nth-map f [] i = refl
 nth-map f (x ∷ xs) zero = refl
 nth-map f (x ∷ xs) (suc i) = nth-map f xs i
 
-nth-none : {X : Type 0} (xs : List X) (j : ℕ) → nth xs j ≡ None → length xs ≤ j
-nth-none [] j e = omega arith
-nth-none (x ∷ xs) zero e = let z : _≡_ {A = ℕ} 0 1 = cc in absurd (omega arith)
-nth-none (x ∷ xs) (suc j) e = let h = nth-none xs j e in omega arith
-
 -- the records have as many cells as the heads count
 pub cells-counted : (ss : List Slot) (hs : List Head) → cells-used (map (rec-of ss) hs) ≡ counts hs
 cells-counted ss [] = refl
@@ -130,13 +125,3 @@ module _ (ss : List Slot) (hs : List Head) where
           map-append (rec-of (nulled ss front)) hs (head ∷ [])
           ∙ ap (λ rs. rs ++ rec-of (nulled ss front) head ∷ []) (nulled-records ss hs front front-outside)
           ∙ ap (λ (vs : List Value). map (rec-of ss) hs ++ (record { class = class; cells = vs } ∷ [])) blank-cells
-
--- a write to a cell that is absent changes nothing
-value-absent : (xs : List Rec) (i j : ℕ) (v : Value) → cell-in (nth xs i) j ≡ None → with-value-at xs i j v ≡ xs
-value-absent [] i j v e = refl
-value-absent (x ∷ xs) zero j v e = ap (λ (vs : List Value). record { class = x .class; cells = vs } ∷ xs) (set-past (x .cells) j v (nth-none (x .cells) j e))
-value-absent (x ∷ xs) (suc i) j v e = ap (λ ys. x ∷ ys) (value-absent xs i j v e)
-
-pub cell-absent : (m : Records) (r j : ℕ) (v : Value) → cell-at m r j ≡ None → with-cell m r j v ≡ m
-cell-absent m zero j v e = refl
-cell-absent m (suc i) j v e = ap (λ (rs : List Rec). record { records = rs; records-left = m .records-left; cells-left = m .cells-left }) (value-absent (m .records) i j v e)

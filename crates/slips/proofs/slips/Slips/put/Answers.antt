@@ -10,7 +10,8 @@ use Rattle.slips.specs.declared.slot.Slot.{Slot}
 use Rattle.slips.specs.Chains.{no-slot, value-at, with-slot, linked, model-of}
 use Rattle.slips.specs.SlipsModel.{slips-model}
 use Rattle.slips.proofs.Writing.{next-same, with-read}
-use Rattle.slips.proofs.Holding.{cell-is, slot-within, linked-same, written, cell-absent}
+use Rattle.slips.proofs.Holding.{cell-is, slot-within, linked-same, written}
+use Rattle.store.proofs.Absent.{absent}
 use Rattle.slips.proofs.slips.Slips.put.Needs as need
 
 pub returns-in-rest : need.returns-in-rest
@@ -18,7 +19,7 @@ returns-in-rest g c =
     let s = c .args .self .now in
     let none : cell-at (slips-model s) (c .args .record) (c .args .cell) ≡ None =
     cell-is (s .slots .items) (s .heads .items) (c .args .record) (c .args .cell) (s .spare) (s .space) ∙ ap (mapped (value-at (s .slots .items))) (sym (c .in-rest .ensures tt)) in
-    record { told = sym (ap isSome none); after = sym (cell-absent (slips-model s) (c .args .record) (c .args .cell) (c .args .value) none) }
+    record { told = sym (ap isSome none); after = sym (absent (slips-model s) (c .args .record) (c .args .cell) (c .args .value) none) }
 
 pub index-mut-requires : need.index-mut-requires
 index-mut-requires g c κs =
