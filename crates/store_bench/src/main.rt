@@ -49,7 +49,12 @@ fn read_all<S: Store>(store: &S) -> u32 {
 }
 
 // Runs each operation `rounds` times and prints the nanoseconds that all rounds took.
-fn time<S: Store>(rt: &LibcRuntime, name: &str, store: &mut S, rounds: u32) -> Result<(), AnyError> {
+fn time<S: Store>(
+    rt: &LibcRuntime,
+    name: &str,
+    store: &mut S,
+    rounds: u32,
+) -> Result<(), AnyError> {
     let start = Instant::now(rt)?;
     let mut total = 0u32;
     for _ in 0..rounds {
