@@ -80,22 +80,43 @@ word-of Expressions = 7
 abbrev pub between : ℕ → ℕ → ℕ → Bool
 between low high n = leb low n && leb n high
 
+-- the first and the last kind of a class
+abbrev pub range : Class → Kind × Kind
+range Nothing = (Program, Program)
+range Name = (Identifier, Identifier)
+range Expression = (Assign, Identifier)
+range Instruction = (Print, Identifier)
+range Target = (Selection, Identifier)
+range Initializer = (Initialization, NoInitialization)
+range Body = (MethodBody, MethodBody)
+range MainBlock = (Main, EmptyMain)
+range OneClass = (DeclClass, DeclClass)
+range OneField = (DeclField, DeclField)
+range OneMethod = (DeclMethod, DeclMethod)
+range OneParam = (DeclParam, DeclParam)
+range OneVar = (DeclVar, DeclVar)
+range (ListOf l) = (ListNode, ListNode)
+
+-- whether a class has a node of those kinds with the word w: of lists, it has those of one word
+abbrev pub carries : Class → ℕ → Bool
+carries Nothing w = false
+carries Name w = true
+carries Expression w = true
+carries Instruction w = true
+carries Target w = true
+carries Initializer w = true
+carries Body w = true
+carries MainBlock w = true
+carries OneClass w = true
+carries OneField w = true
+carries OneMethod w = true
+carries OneParam w = true
+carries OneVar w = true
+carries (ListOf l) w = eqb w (word-of l)
+
 -- which nodes a class has
 abbrev pub admits : Class → Node → Bool
-admits Name n = eqb (n .kind) 48
-admits Expression n = between 19 48 (n .kind)
-admits Instruction n = between 13 48 (n .kind)
-admits Target n = between 47 48 (n .kind)
-admits Initializer n = between 8 9 (n .kind)
-admits Body n = eqb (n .kind) 10
-admits MainBlock n = between 11 12 (n .kind)
-admits OneClass n = eqb (n .kind) 3
-admits OneField n = eqb (n .kind) 4
-admits OneMethod n = eqb (n .kind) 5
-admits OneParam n = eqb (n .kind) 6
-admits OneVar n = eqb (n .kind) 7
-admits (ListOf l) n = eqb (n .kind) 2 && eqb (n .word) (word-of l)
-admits Nothing n = false
+admits c n = between (number-of (range c .0)) (number-of (range c .1)) (n .kind) && carries c (n .word)
 
 -- which words a rule allows; the bits of a float are finite unless its exponent is all ones
 abbrev pub fits : Word → ℕ → Bool

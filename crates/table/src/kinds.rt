@@ -2,7 +2,7 @@
 ghost use Prim.Native.Nat.{ℕ, _+_, _≤_};
 ghost use mathlib.Core.Path.{_≡_};
 ghost use lib.Dec.{eqb};
-ghost use Rattle.table.specs.Kinds.{admits, between, fits, row-of, list-row-of, number-of, word-of};
+ghost use Rattle.table.specs.Kinds.{admits, range, carries, between, fits, row-of, list-row-of, number-of, word-of};
 
 // A node of a batch, as it is handed in.
 #[repr(C)]
@@ -250,25 +250,44 @@ impl Listed {
 }
 
 impl Class {
-    pub(super) fn admits(self, node: Node) -> bool
-        ensures { λ r. ⌜ r ≡ admits self node ⌝ }
+    // The first and the last kind.
+    fn range(self) -> (Kind, Kind)
+        ensures { λ r. ⌜ r ≡ range self ⌝ }
+    {
+        match self {
+            Class::Nothing => (Kind::Program, Kind::Program),
+            Class::Name => (Kind::Identifier, Kind::Identifier),
+            Class::Expression => (Kind::Assign, Kind::Identifier),
+            Class::Instruction => (Kind::Print, Kind::Identifier),
+            Class::Target => (Kind::Selection, Kind::Identifier),
+            Class::Initializer => (Kind::Initialization, Kind::NoInitialization),
+            Class::Body => (Kind::MethodBody, Kind::MethodBody),
+            Class::MainBlock => (Kind::Main, Kind::EmptyMain),
+            Class::OneClass => (Kind::DeclClass, Kind::DeclClass),
+            Class::OneField => (Kind::DeclField, Kind::DeclField),
+            Class::OneMethod => (Kind::DeclMethod, Kind::DeclMethod),
+            Class::OneParam => (Kind::DeclParam, Kind::DeclParam),
+            Class::OneVar => (Kind::DeclVar, Kind::DeclVar),
+            Class::ListOf(_) => (Kind::List, Kind::List),
+        }
+    }
+
+    // Whether a node of those kinds may have that word here.
+    fn carries(self, word: u64) -> bool
+        ensures { λ r. ⌜ r ≡ carries self word ⌝ }
     {
         match self {
             Class::Nothing => false,
-            Class::Name => node.is(Kind::Identifier),
-            Class::Expression => node.is_between(Kind::Assign, Kind::Identifier),
-            Class::Instruction => node.is_between(Kind::Print, Kind::Identifier),
-            Class::Target => node.is_between(Kind::Selection, Kind::Identifier),
-            Class::Initializer => node.is_between(Kind::Initialization, Kind::NoInitialization),
-            Class::Body => node.is(Kind::MethodBody),
-            Class::MainBlock => node.is_between(Kind::Main, Kind::EmptyMain),
-            Class::OneClass => node.is(Kind::DeclClass),
-            Class::OneField => node.is(Kind::DeclField),
-            Class::OneMethod => node.is(Kind::DeclMethod),
-            Class::OneParam => node.is(Kind::DeclParam),
-            Class::OneVar => node.is(Kind::DeclVar),
-            Class::ListOf(list) => node.is(Kind::List) && node.word == list.word(),
+            Class::ListOf(list) => word == list.word(),
+            _ => true,
         }
+    }
+
+    pub(super) fn admits(self, node: Node) -> bool
+        ensures { λ r. ⌜ r ≡ admits self node ⌝ }
+    {
+        let (low, high) = self.range();
+        node.is_between(low, high) && self.carries(node.word)
     }
 }
 
