@@ -6,3 +6,4 @@ pub mod Rows
 pub mod Verdict
 pub mod Moving
 pub mod Standing
+pub mod Smallest

@@ -5,6 +5,7 @@ ghost use lib.ListN.{length};
 ghost use Rattle.std.specs.Options.{Cases as BySome};
 ghost use Rattle.std.specs.Results.{Cases};
 ghost use Rattle.std.specs.Orderings.{Decides};
+ghost use Rattle.table.specs.Cases.{Smallest-batch};
 ghost use Rattle.table.specs.Shape.{refusal, Child, Follow, Elements, Listing, Laid, Placed, Worded, Formed, Refused, Settled, end-of};
 use super::kinds::Class;
 use super::kinds::Kind;
@@ -165,4 +166,11 @@ pub fn check_shape(nodes: &[Node]) -> Result<(), ShapeFault>
         }
     }
     Ok(())
+}
+
+// What the definitions say of the smallest batch.
+pub fn smallest_batch() -> u8
+    ensures { λ _. ⌜ Smallest-batch ⌝ }
+{
+    0
 }
