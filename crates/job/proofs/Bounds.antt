@@ -1,11 +1,11 @@
 -- What a list of bounded length keeps, while it has room and when it is full.
-use mathlib.Core.Path.{_≡_, refl, sym, ap, subst, _∙_}
+use mathlib.Core.Path.{_≡_, sym, ap, subst, _∙_}
 use mathlib.Core.Logic.{⊎-elim}
-use mathlib.Core.Bool.{Bool, true, false, _||_}
+use mathlib.Core.Bool.{Bool, _||_}
 use mathlib.Core.List.{List, [], _∷_, _++_}
 use Prim.Native.Nat.{ℕ, _<_, _≤_}
 use native.Mathlib.Omega.{arith}
-use lib.Dec.{leb, ltb}
+use lib.Dec.{leb}
 use lib.ListN.{length, take}
 use Rattle.std.proofs.shelf.Lists.{take-all, take-at, take-append-le, length-push, length-take-le, length-take}
 use Rattle.std.proofs.shelf.Tests.{cases-lt, le-ltb, lt-ltb}
@@ -17,7 +17,7 @@ use Rattle.table.specs.declared.kinds.Node.{Node}
 use Rattle.table.specs.declared.shape.ShapeFault.{ShapeFault}
 use Rattle.job.specs.Commands.{Carries, line-of, line-says}
 use Rattle.job.specs.Kept.{kept}
-use Rattle.job.specs.Play.{Holds, Judged}
+use Rattle.job.specs.Play.{Judged}
 
 pub kept-more : {X : Type 0} (most : ℕ) (xs : List X) (x : X) → length xs < most → xs ++ x ∷ [] ≡ kept most xs x
 kept-more most xs x h = sym (take-all most (xs ++ x ∷ []) (omega (arith, length-push xs x)))

@@ -1,6 +1,6 @@
 -- The steps of a loop over the digits of a word.
-use mathlib.Core.Path.{_≡_, refl, sym, ap, _∙_}
-use mathlib.Core.Bool.{true, false, cond, _&&_}
+use mathlib.Core.Path.{_≡_, sym, _∙_}
+use mathlib.Core.Bool.{true, false, _&&_}
 use mathlib.Core.List.{List, [], _∷_}
 use Prim.Native.Nat.{ℕ, _+_, _-_, _*_, _≤_, _<_}
 use native.Mathlib.Omega.{arith}
@@ -10,12 +10,11 @@ use Rattle.std.specs.Text.{asciiDigit}
 use Rattle.std.specs.shelf.Text.{allDigits}
 use Rattle.std.specs.declared.result.Result.{Result}
 use Rattle.std.specs.declared.result.Result.the-variants.{Ok, Err}
-use Rattle.std.proofs.shelf.Lists.{at-drop-more, at-drop-all}
-use Rattle.std.proofs.shelf.Tests.{and-parts, and-left, and-right, leb-true, le-leb, lt-leb}
-use Rattle.std.proofs.shelf.Ways.{tells}
+use Rattle.std.proofs.shelf.Lists.{at-drop-more}
+use Rattle.std.proofs.shelf.Tests.{and-parts, and-right, leb-true, le-leb, lt-leb}
 use Rattle.job.specs.Numbers.{plain, number-after, decimal-of}
 use Rattle.job.specs.declared.wrong.Wrong.{Wrong}
-use Rattle.job.specs.declared.wrong.Wrong.the-variants.{NotANumber, NumberTooLarge}
+use Rattle.job.specs.declared.wrong.Wrong.the-variants.{NumberTooLarge}
 
 pub digits-step : (w : List ℕ) (i : ℕ) → i < length w → allDigits (drop i w) ≡ (asciiDigit (getD w i 0) && allDigits (drop (i + 1) w))
 digits-step w i h = at-drop-more allDigits w i 0 h

@@ -11,7 +11,6 @@ use Rattle.table.specs.declared.shape.ShapeFault.{ShapeFault}
 use Rattle.table.specs.declared.shape.ShapeFault.the-variants.{Length, Layout, Word, Depth}
 use Rattle.job.specs.declared.answer.Answer.{Answer}
 use Rattle.job.specs.declared.answer.Answer.the-variants.{Shape, Line}
-use Rattle.job.specs.declared.wrong.Wrong.{Wrong}
 use Rattle.job.specs.Faults.{text-of}
 
 -- the faulty position, where the fault has one

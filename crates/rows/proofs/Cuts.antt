@@ -1,6 +1,6 @@
 -- Records cut off one sequence of cells: how many they are, what they hold, and what a write or a new record does.
 use mathlib.Core.Path.{_≡_, refl, sym, ap, subst, _∙_}
-use mathlib.Core.Bool.{true, _&&_}
+use mathlib.Core.Bool.{true}
 use mathlib.Core.List.{List, [], _∷_, _++_}
 use mathlib.Core.Logic.{_⊎_, ⊎-elim}
 use Prim.Native.Nat.{ℕ, zero, suc, _+_, _-_, _<_, _≤_}
@@ -15,7 +15,7 @@ use Rattle.std.proofs.shelf.Lists.{append-assoc, replicate-more, length-take, l
 use Rattle.std.proofs.shelf.Maps.{nth-getD, nth-past}
 use Rattle.values.specs.declared.value.Value.{Value}
 use Rattle.values.specs.declared.value.Value.the-variants.{Null}
-use Rattle.store.specs.Model.{Rec, Records, record-at, with-value-at, with-cell, cells-used}
+use Rattle.store.specs.Model.{Records, record-at, with-value-at, with-cell, cells-used}
 use Rattle.rows.specs.Tiles.{tiles}
 use Rattle.rows.specs.Meaning.{cut, no-head}
 use Rattle.rows.specs.declared.held.Head.{Head}

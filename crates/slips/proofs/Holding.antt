@@ -1,27 +1,27 @@
 -- What heads and slots that are linked say about the records.
 use mathlib.Core.Path.{_≡_, refl, sym, ap, _∙_}
-use mathlib.Core.Bool.{Bool, true, false, _&&_}
+use mathlib.Core.Bool.{Bool, true, _&&_}
 use mathlib.Core.List.{List, [], _∷_, _++_, map}
 use Prim.Native.Nat.{ℕ, zero, suc, _+_, _-_, _<_, _≤_}
 use native.Mathlib.Omega.{arith}
 use lib.Dec.{eqb, ltb}
-use lib.ListN.{length, replicate, length-map, length-set}
+use lib.ListN.{length, replicate, length-map}
 use Rattle.std.specs.Finite.{nth}
 use Rattle.std.specs.Options.{mapped}
 use Rattle.std.specs.declared.option.Option.{Option}
 use Rattle.std.specs.declared.option.Option.the-variants.{Some, None}
 use Rattle.std.specs.shelf.Lawful.{all-pass, distinct-test}
-use Rattle.std.proofs.shelf.Lists.{append-assoc, map-append, set-past}
+use Rattle.std.proofs.shelf.Lists.{append-assoc, map-append}
 use Rattle.std.proofs.shelf.Tests.{and-parts, ltb-true}
 use Rattle.values.specs.declared.value.Value.{Value}
 use Rattle.values.specs.declared.value.Value.the-variants.{Null}
-use Rattle.store.specs.Model.{Rec, Records, blank, record-at, cell-in, cell-at, with-value-at, with-cell, with-record, cells-used}
+use Rattle.store.specs.Model.{Rec, blank, record-at, cell-in, cell-at, with-value-at, with-cell, cells-used}
 use Rattle.slips.specs.declared.slot.Slot.{Slot}
 use Rattle.slips.specs.declared.slot.Head.{Head}
 use Rattle.slips.specs.Chains.{slot, after, chain, value-at, within, with-slot, nulled, used, every, linked, counts, rec-of, model-of, head-at, slot-in, slot-at}
 use Rattle.slips.proofs.Passing.{outside, all-parts, all-nth, distinct-left, right-outside}
 use Rattle.slips.proofs.Walking.{length-chain, chain-split, front-within, used-push, used-nth}
-use Rattle.slips.proofs.Writing.{Same-links, chain-same, used-same, next-same, records-here, length-nulled, nulled-links, nulled-values, nulled-records}
+use Rattle.slips.proofs.Writing.{Same-links, chain-same, used-same, records-here, length-nulled, nulled-links, nulled-values, nulled-records}
 
 nth-map : {X Y : Type 0} (f : X → Y) (xs : List X) (i : ℕ) → nth (map f xs) i ≡ mapped f (nth xs i)
 nth-map f [] i = refl

@@ -1,6 +1,6 @@
 -- What a write to the value of one slot, and to those of many, does to chains and records.
-use mathlib.Core.Path.{_≡_, refl, sym, ap, subst, _∙_}
-use mathlib.Core.Bool.{Bool, true, false, not, _&&_}
+use mathlib.Core.Path.{_≡_, refl, sym, ap, _∙_}
+use mathlib.Core.Bool.{true, not}
 use mathlib.Core.Logic.{⊎-elim}
 use mathlib.Core.List.{List, [], _∷_, _++_, map}
 use Prim.Native.Nat.{ℕ, zero, suc, _<_}
@@ -17,7 +17,7 @@ use Rattle.values.specs.declared.value.Value.the-variants.{Null}
 use Rattle.store.specs.Model.{Rec, with-value, with-value-at}
 use Rattle.slips.specs.declared.slot.Slot.{Slot}
 use Rattle.slips.specs.declared.slot.Head.{Head}
-use Rattle.slips.specs.Chains.{no-slot, slot, chain, value-at, cells-of, with-slot, nulled, used, rec-of}
+use Rattle.slips.specs.Chains.{no-slot, slot, chain, value-at, with-slot, nulled, used, rec-of}
 use Rattle.slips.proofs.Passing.{outside, all-parts, all-nth, distinct-left, distinct-right, left-outside, right-outside}
 use Rattle.slips.proofs.Walking.{used-nth}
 

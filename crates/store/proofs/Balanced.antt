@@ -1,18 +1,18 @@
 -- Every change keeps the balance of what is used and what is left.
 use mathlib.Core.Path.{_≡_, refl, sym, ap, subst, _∙_}
-use mathlib.Core.Bool.{true, false, cond}
+use mathlib.Core.Bool.{true, cond}
 use mathlib.Core.List.{List, [], _∷_, _++_}
 use mathlib.Core.Logic.{inl, inr}
 use Prim.Native.Nat.{ℕ, zero, suc, _+_, _-_, _<_}
 use native.Mathlib.Omega.{arith}
-use lib.Dec.{ltb, leb}
-use lib.ListN.{length, take, getD, replicate}
+use lib.Dec.{ltb}
+use lib.ListN.{length, take, getD}
 use borrow.Author.Tests.{ltb-true, leb-true}
-use Rattle.std.proofs.shelf.Lists.{take-more, take-all, length-push, length-set, length-replicate}
+use Rattle.std.proofs.shelf.Lists.{take-more, length-push, length-set, length-replicate}
 use Rattle.std.proofs.shelf.Tests.{and-parts, cases-bool}
 use Rattle.values.specs.declared.value.Value.{Value}
 use Rattle.values.specs.declared.value.Value.the-variants.{Null}
-use Rattle.store.specs.Model.{Rec, Records, room, cleared, blank, with-record, with-value-at, with-cell, cells-used}
+use Rattle.store.specs.Model.{Rec, Records, room, cleared, blank, with-record, with-value-at, cells-used}
 use Rattle.store.specs.History.{changed, played, Balance, Balances}
 use Rattle.store.specs.declared.history.Change.{Change}
 use Rattle.store.specs.declared.history.Change.the-variants.{Create, Write}

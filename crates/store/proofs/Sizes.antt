@@ -3,14 +3,8 @@ use mathlib.Core.Path.{_≡_}
 use mathlib.Core.Bool.{true, _&&_}
 use Prim.Native.Nat.{ℕ, _≤_}
 use lib.Dec.{leb}
-use Rattle.std.proofs.shelf.Tests.{and-parts, and-from, leb-true, le-leb}
+use Rattle.std.proofs.shelf.Tests.{and-from, le-leb}
 use Rattle.store.specs.Model.{allowed}
 
 pub allowed-from : (r c : ℕ) → 1 ≤ r → r ≤ 1000 → c ≤ 2000 → allowed r c ≡ true
 allowed-from r c a b d = and-from (leb 1 r && leb r 1000) (leb c 2000) (and-from (leb 1 r) (leb r 1000) (le-leb 1 r a) (le-leb r 1000 b)) (le-leb c 2000 d)
-
-pub bounds-from : (r c : ℕ) → allowed r c ≡ true → (1 ≤ r) × (r ≤ 1000) × (c ≤ 2000)
-bounds-from r c h =
-    let p = and-parts (leb 1 r && leb r 1000) (leb c 2000) h in
-    let q = and-parts (leb 1 r) (leb r 1000) (p .0) in
-    (leb-true 1 r (q .0), leb-true r 1000 (q .1), leb-true c 2000 (p .1))

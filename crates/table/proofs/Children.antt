@@ -1,6 +1,6 @@
 -- Children that follow one another: one more of them, and none left.
-use mathlib.Core.Path.{_≡_, refl, sym, subst}
-use mathlib.Core.List.{List, [], _∷_}
+use mathlib.Core.Path.{_≡_, sym, subst}
+use mathlib.Core.List.{List}
 use Prim.Native.Nat.{ℕ, zero, suc, _+_, _<_, _≤_}
 use native.Mathlib.Omega.{arith}
 use lib.ListN.{length, getD, drop, replicate}
@@ -37,15 +37,6 @@ pub record Counted (ns : List Node) (e : ℕ) (c : Class) (first q n : ℕ) : Ty
 module _ (ns : List Node) (e : ℕ) (c : Class) (first : ℕ) where
   Elems : ℕ → ℕ → Type 0
   Elems q k = Follow ns e (replicate k c) q
-
-  pub counted-none : Counted ns e c first first 0
-  unfolding Elems
-  counted-none =
-      record {
-        apart = omega arith;
-        joins = λ k f. subst (Elems first) (omega arith) f;
-        parts = λ k f. (k, omega arith, f);
-      }
 
   pub counted-more : (q n : ℕ) → Counted ns e c first q n → Child ns e c q → Counted ns e c first (end-of ns q) (n + 1)
   unfolding Elems

@@ -1,13 +1,12 @@
 -- Parts are not empty, and lie in the parts around them.
-use mathlib.Core.Path.{_≡_, refl, sym, subst}
+use mathlib.Core.Path.{_≡_, subst}
 use mathlib.Core.List.{List, [], _∷_}
 use mathlib.Core.Logic.{_⊎_, inl, inr}
 use Prim.Native.Nat.{ℕ, zero, suc, _+_, _<_, _≤_}
 use native.Mathlib.Omega.{arith}
-use native.Mathlib.Decide.{decLt}
-use lib.ListN.{length, replicate}
+use lib.ListN.{replicate}
 use Rattle.std.proofs.shelf.Tests.{cases-eq, cases-lt}
-use Rattle.table.specs.Shape.{Child, Follow, Elements, Listing, Laid, Placed, node-at, end-of, children-of}
+use Rattle.table.specs.Shape.{Follow, Laid, node-at, end-of}
 use Rattle.table.specs.declared.kinds.Node.{Node}
 use Rattle.table.specs.declared.kinds.Class.{Class}
 

@@ -1,17 +1,16 @@
 -- The open parts: what closing some and opening one does to their count.
-use mathlib.Core.Path.{_≡_, refl, sym, ap, subst, _∙_}
-use mathlib.Core.List.{List, [], _∷_}
+use mathlib.Core.Path.{_≡_, refl, _∙_}
+use mathlib.Core.List.{List}
 use mathlib.Core.Bool.{cond}
-use mathlib.Core.Logic.{_⊎_, inl, inr}
+use mathlib.Core.Logic.{inl, inr}
 use Prim.Native.Nat.{ℕ, zero, suc, _+_, _-_, _<_, _≤_}
 use native.Mathlib.Omega.{arith}
 use native.Mathlib.Numerals.{add-one}
 use lib.Dec.{ltb}
 use lib.ListN.{length, getD, set}
-use Rattle.std.proofs.shelf.Tests.{cases-eq, cases-lt, lt-ltb, le-ltb}
-use Rattle.std.proofs.shelf.Ways.{tells}
+use Rattle.std.proofs.shelf.Tests.{cases-eq, lt-ltb, le-ltb}
 use Rattle.std.proofs.shelf.Lists.{getD-set-same, getD-set-other}
-use Rattle.table.specs.Shape.{Laid, node-at, end-of, tally, depth}
+use Rattle.table.specs.Shape.{Laid, end-of, tally, depth}
 use Rattle.table.specs.Open.{Opens}
 use Rattle.table.specs.declared.kinds.Node.{Node}
 use Rattle.table.proofs.Nest.{nests-before, laid-filled}
@@ -44,9 +43,6 @@ tally-more : (f : ℕ → ℕ) (n j : ℕ) → tally f (n + 1) j ≡ tally f n j
 tally-more f n j = rw add-one refl
 
 module _ (ns : List Node) where
-  pub opens-none : (es : List ℕ) → Opens ns 0 0 es
-  opens-none es = record { room = omega arith; ends = λ i h. absurd (omega arith); inward = λ i j h k. absurd (omega arith); counts = λ j h. refl }
-
   -- parts that end at p or before it may be closed
   pub opens-closed : (p m n : ℕ) (es : List ℕ) → Opens ns p n es → m ≤ n → ((i : ℕ) → m ≤ i → i < n → getD es i 0 ≤ p) → Opens ns p m es
   opens-closed p m n es o l h =

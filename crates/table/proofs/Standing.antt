@@ -1,20 +1,20 @@
 -- The children that a view names are those of its node, each at its place.
 use mathlib.Core.Path.{_≡_, refl, sym, ap, subst, _∙_}
 use mathlib.Core.List.{List, [], _∷_, map}
-use Prim.Native.Nat.{ℕ, zero, suc, _+_, _-_, _<_, _≤_}
+use Prim.Native.Nat.{ℕ, zero, suc, _+_, _-_, _≤_}
 use native.Mathlib.Omega.{arith}
-use lib.ListN.{length, getD, take, drop}
+use lib.ListN.{length, getD, drop}
 use Rattle.std.proofs.shelf.Lists.{length-take}
 use Rattle.std.proofs.shelf.Tests.{lt-ltb}
-use Rattle.table.specs.Kinds.{table, row, row-of, classes-of}
-use Rattle.table.specs.Shape.{Child, Follow, Laid, node-at, end-of, children-of}
+use Rattle.table.specs.Kinds.{table, row, classes-of}
+use Rattle.table.specs.Shape.{Follow, Laid, node-at, end-of, children-of}
 use Rattle.table.specs.View.{view, past, heads, head-of, named, Stand}
 use Rattle.table.specs.declared.kinds.Node.{Node}
 use Rattle.table.specs.declared.kinds.Class.{Class}
 use Rattle.table.specs.declared.kinds.Row.{Row}
 use Rattle.table.specs.declared.kinds.Kind.the-variants.{Program}
 use Rattle.table.specs.declared.kinds.Word.the-variants.{Zero}
-use Rattle.table.specs.declared.view.View.the-variants.{Nothing}
+use Rattle.table.specs.declared.view.View.the-variants.{Nothing, List as Elements}
 use Rattle.table.proofs.Moving.{getD-mapped}
 use Rattle.table.proofs.Rows.{row-narrow}
 
@@ -62,3 +62,11 @@ view-stands ns p l n =
     let m = row-narrow k (l .lowest) (l .highest) in
     subst (Stand ns (end-of ns p) (p + 1)) (sym (head-named k _ _ _ _ _ _ (l .lowest)))
     (stand ns (end-of ns p) 4 (children-of k) (p + 1) (simp length-take (omega arith)) (l .children .1 n))
+
+-- the elements of a List begin behind it and end with its part
+pub view-list : (ns : List Node) (p : ℕ) → node-at ns p .kind ≡ 2 → view ns p ≡ Elements (p + 1) (end-of ns p)
+unfolding view
+view-list ns p e =
+    let b = past ns (end-of ns p) (p + 1) in
+    let c = past ns (end-of ns p) b in
+    ap (λ k. head-of k (node-at ns p .word) (p + 1) b c (past ns (end-of ns p) c) (end-of ns p)) e

@@ -1,13 +1,13 @@
 -- A table is formed or refused, never both, and refused in one way only.
 use mathlib.Core.Path.{_≡_, refl, sym, ap, subst}
 use mathlib.Core.List.{List}
-use mathlib.Core.Logic.{_⊎_, inl, inr}
-use Prim.Native.Nat.{ℕ, _+_, _<_, _≤_}
+use mathlib.Core.Logic.{inl, inr}
+use Prim.Native.Nat.{ℕ, _<_}
 use native.Mathlib.Omega.{arith}
 use lib.ListN.{length}
 use Rattle.std.proofs.shelf.Lists.{getD-past}
 use Rattle.std.proofs.shelf.Tests.{cases-lt, cases-order}
-use Rattle.table.specs.Shape.{Few, Formed, Sound, Faulty, Refused, Settled, Laid, node-at, end-of}
+use Rattle.table.specs.Shape.{Few, Formed, Sound, Faulty, Refused, Settled, Laid, node-at}
 use Rattle.table.specs.Shape.Faulty.{layout, word, deep}
 use Rattle.table.specs.Shape.Refused.{many, first}
 use Rattle.table.specs.declared.kinds.Node.{Node}

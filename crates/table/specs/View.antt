@@ -12,7 +12,6 @@ use Rattle.table.specs.declared.kinds.Class.{Class}
 use Rattle.table.specs.declared.kinds.Class.the-variants.{Name, Target, Initializer, Body, MainBlock, ListOf, Expression as AnyExpression}
 use Rattle.table.specs.declared.view.BinaryOp.{BinaryOp}
 use Rattle.table.specs.declared.view.BinaryOp.the-variants.{Divide, Minus, Modulo, Multiply, Plus, And, Or, Equals, NotEquals, Greater, GreaterOrEquals, Lower, LowerOrEquals}
-use Rattle.table.specs.declared.view.UnaryOp.{UnaryOp}
 use Rattle.table.specs.declared.view.UnaryOp.the-variants.{Minus as Negate, Not}
 use Rattle.table.specs.declared.view.Expression.{Expression}
 use Rattle.table.specs.declared.view.Expression.the-variants.{Assign, Binary, Unary, ReadInt, ReadFloat, Cast, InstanceOf, MethodCall, New, This, IntLiteral, FloatLiteral, StringLiteral, BooleanLiteral, NullLiteral, Selection, Identifier}

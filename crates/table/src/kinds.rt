@@ -1,5 +1,5 @@
 // The 48 kinds of node: the children that each has and the word that it carries, as one table.
-ghost use Prim.Native.Nat.{ℕ, _+_, _≤_};
+ghost use Prim.Native.Nat.{_≤_};
 ghost use mathlib.Core.Path.{_≡_};
 ghost use lib.Dec.{eqb};
 ghost use Rattle.table.specs.Kinds.{admits, range, carries, between, fits, row-of, list-row-of, number-of, word-of};

@@ -1,5 +1,5 @@
 // The view of a node: its kind with the places of its children, as a later pass wants to match on it.
-ghost use Prim.Native.Nat.{ℕ, _+_, _≤_, _<_};
+ghost use Prim.Native.Nat.{_+_, _≤_, _<_};
 ghost use mathlib.Core.Path.{_≡_};
 ghost use mathlib.Core.Bool.{true};
 ghost use mathlib.Core.List.{List, _++_};
@@ -174,7 +174,8 @@ fn head(kind: Kind, word: u64, at: Places) -> View
     }
 }
 
-// The view of the node at `p`. It names the node's children, each at its place, but for the elements of a List.
+// The view of the node at `p`. It names the node's children, each at its place, and of a List where its
+// elements begin and end.
 // Wherever the table is put, with other nodes before and behind it, the node has this view there, moved along.
 pub fn view_of(nodes: &[Node], p: usize) -> View
     requires within { ⌜ p < length (now nodes) ⌝ }
@@ -182,6 +183,7 @@ pub fn view_of(nodes: &[Node], p: usize) -> View
     requires worded { ⌜ Worded (node-at (now nodes) p) ⌝ }
     ensures value { λ r. ⌜ r ≡ view (now (nodes .entry)) p ⌝ }
     ensures children { λ r. ⌜ ((node-at (now (nodes .entry)) p .kind ≡ 2 → ⊥) → Stand (now (nodes .entry)) (end-of (now (nodes .entry)) p) (p + 1) (named r)) ⌝ }
+    ensures elements { λ r. ⌜ (node-at (now (nodes .entry)) p .kind ≡ 2 → r ≡ View.List (p + 1) (end-of (now (nodes .entry)) p)) ⌝ }
     ensures moves { λ r. ⌜ ((before behind : List Node) → view (before ++ (now (nodes .entry) ++ behind)) (length before + p) ≡ moved (length before) r) ⌝ }
 {
     let node = nodes[p];

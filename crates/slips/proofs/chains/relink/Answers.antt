@@ -1,10 +1,10 @@
 use borrow.Author.Count.{below-more}
-use mathlib.Core.Path.{_≡_, ap, _∙_}
+use mathlib.Core.Path.{ap, _∙_}
 use mathlib.Core.Logic.{_≢_}
 use native.Mathlib.Omega.{arith}
 use lib.Seq.{getD-set-same, getD-set-other}
 use Rattle.slips.specs.declared.slot.Slot.{Slot}
-use Rattle.slips.specs.Chains.{no-slot, slot}
+use Rattle.slips.specs.Chains.{no-slot}
 use Rattle.slips.proofs.chains.relink.Needs as need
 
 pub loop-i-again : need.loop-i-again

@@ -1,7 +1,4 @@
-use Prim.Native.Nat.{ℕ, _+_, _-_, _≤_}
-use mathlib.Core.Path.{_≡_}
-use lib.ListN.{replicate}
-use Rattle.table.specs.Shape.{Follow}
+use Prim.Native.Nat.{_-_}
 use Rattle.table.proofs.Children.{Counted}
 use Rattle.table.proofs.shape.elements.Given as given
 

@@ -6,7 +6,7 @@ use Rattle.table.specs.Shape.{node-at, end-of}
 use Rattle.table.specs.View.{view, moved, named, Stand}
 use Rattle.table.proofs.Rows.{row-numbered}
 use Rattle.table.proofs.Moving.{view-from, view-moved}
-use Rattle.table.proofs.Standing.{view-stands}
+use Rattle.table.proofs.Standing.{view-stands, view-list}
 use Rattle.table.proofs.view.view_of.Needs as need
 
 pub head-requires : need.head-requires
@@ -25,5 +25,6 @@ returns c =
     record {
       value = v;
       children = λ n. subst (λ x. Stand ns (end-of ns (c .args .p)) (c .args .p + 1) (named x)) (sym v) (view-stands ns (c .args .p) (c .pre .laid) n);
+      elements = λ e. v ∙ view-list ns (c .args .p) e;
       moves = λ P S. view-moved P ns S (c .args .p) (c .pre .within) (c .pre .laid .within) ∙ ap (moved _) (sym v);
     }

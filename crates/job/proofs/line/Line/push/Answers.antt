@@ -1,13 +1,11 @@
-use mathlib.Core.Path.{_≡_, sym, subst, _∙_}
+use mathlib.Core.Path.{_≡_, _∙_}
 use mathlib.Core.Bool.{_||_}
-use mathlib.Core.List.{List, [], _∷_, _++_}
 use Prim.Native.Nat.{_<_, _≤_}
 use native.Mathlib.Omega.{arith}
 use lib.Dec.{leb}
 use lib.ListN.{length}
 use Rattle.std.specs.Of.Vec.{vec-items}
 use Rattle.std.proofs.shelf.Ways.{tells}
-use Rattle.job.specs.Commands.{Carries}
 use Rattle.job.specs.Kept.{kept}
 use Rattle.job.proofs.Bounds.{kept-more, kept-full, carries-more}
 use Rattle.job.proofs.line.Line.push.Needs as need

@@ -1,10 +1,9 @@
-use mathlib.Core.Path.{_≡_, refl, sym, ap, _∙_}
-use mathlib.Core.Bool.{true}
-use mathlib.Core.List.{List, [], _∷_, _++_, map}
+use mathlib.Core.Path.{_≡_, sym, ap, _∙_}
+use mathlib.Core.List.{List, [], _∷_, _++_}
 use Prim.Native.Nat.{ℕ, _-_, _≤_}
 use native.Mathlib.Omega.{arith}
 use lib.Dec.{ltb, leb}
-use lib.ListN.{length, length-map}
+use lib.ListN.{length}
 use Rattle.std.specs.Changed.{refilled}
 use Rattle.std.specs.declared.vec.Vec.{Vec}
 use Rattle.std.proofs.shelf.Lists.{refilled-is}
@@ -12,7 +11,7 @@ use Rattle.std.proofs.shelf.Tests.{and-from, lt-ltb, le-leb}
 use Rattle.store.specs.Model.{Rec}
 use Rattle.slips.specs.declared.slot.Slot.{Slot}
 use Rattle.slips.specs.declared.slot.Head.{Head}
-use Rattle.slips.specs.Chains.{after, chain, within, nulled, linked, counts, rec-of, model-of}
+use Rattle.slips.specs.Chains.{after, chain, within, nulled, linked, counts, model-of}
 use Rattle.slips.proofs.Walking.{counts-push}
 use Rattle.slips.proofs.Writing.{length-nulled}
 use Rattle.slips.proofs.Holding.{front-there, created-linked, created-records}

@@ -1,4 +1,4 @@
-use mathlib.Core.Path.{_≡_, sym, ap, _∙_}
+use mathlib.Core.Path.{sym, ap, _∙_}
 use Rattle.std.specs.Options.{mapped}
 use Rattle.store.specs.Model.{class-in}
 use Rattle.slips.specs.Chains.{rec-of}

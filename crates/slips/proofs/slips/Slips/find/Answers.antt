@@ -1,11 +1,7 @@
-use mathlib.Core.Path.{_≡_, sym, ap, subst, _∙_}
-use mathlib.Core.Bool.{true}
-use mathlib.Core.List.{List}
+use mathlib.Core.Path.{sym, ap, _∙_}
 use native.Mathlib.Omega.{arith}
-use Rattle.std.specs.Finite.{nth}
 use Rattle.std.specs.declared.option.Option.the-variants.{Some}
 use Rattle.std.proofs.shelf.Maps.{nth-past}
-use Rattle.slips.specs.declared.slot.Slot.{Slot}
 use Rattle.slips.specs.Chains.{after, chain, within, slot-in}
 use Rattle.slips.proofs.Walking.{length-chain, nth-chain, front-within}
 use Rattle.slips.proofs.Holding.{head-within}

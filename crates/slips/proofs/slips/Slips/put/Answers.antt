@@ -1,13 +1,10 @@
-use mathlib.Core.Path.{_≡_, refl, sym, ap, _∙_}
-use mathlib.Core.List.{List}
-use Prim.Native.Nat.{_<_}
+use mathlib.Core.Path.{_≡_, sym, ap, _∙_}
 use native.Mathlib.Omega.{arith}
-use lib.ListN.{length, set, length-set}
+use lib.ListN.{length-set}
 use Rattle.std.specs.Options.{mapped, isSome}
-use Rattle.std.specs.declared.option.Option.the-variants.{Some, None}
+use Rattle.std.specs.declared.option.Option.the-variants.{None}
 use Rattle.store.specs.Model.{cell-at}
-use Rattle.slips.specs.declared.slot.Slot.{Slot}
-use Rattle.slips.specs.Chains.{no-slot, value-at, with-slot, linked, model-of}
+use Rattle.slips.specs.Chains.{value-at, with-slot, linked, model-of}
 use Rattle.slips.specs.SlipsModel.{slips-model}
 use Rattle.slips.proofs.Writing.{next-same, with-read}
 use Rattle.slips.proofs.Holding.{cell-is, slot-within, linked-same, written}
