@@ -1,4 +1,6 @@
 // Environments: slices of named entries, in which the first entry with a name counts. One code for every kind of definition.
+#![tactic(auto)]
+
 ghost use Rattle.std.specs.Prelude.{◌≡◌, ℕ, ◌↔◌, None};
 ghost use Rattle.names.specs.Env.{lookup, stacked, Apart, first_in, Laws};
 
@@ -15,7 +17,7 @@ pub trait Named {
 
 // The first entry with that name.
 pub fn find<D: Named + Copy>(entries: &[D], name: u16) -> Option<D>
-    ensures { result ≡ lookup symbol entries.now name }
+    ensures { result ≡ lookup D.symbol entries.now name }
 {
     for entry in entries {
         if entry.name() == name {
@@ -27,7 +29,7 @@ pub fn find<D: Named + Copy>(entries: &[D], name: u16) -> Option<D>
 
 // The first entry with that name in `upper`, and where there is none, in `lower`.
 pub fn find_stacked<D: Named + Copy>(upper: &[D], lower: &[D], name: u16) -> Option<D>
-    ensures { result ≡ stacked (lookup symbol upper.now) (lookup symbol lower.now) name }
+    ensures { result ≡ stacked (lookup D.symbol upper.now) (lookup D.symbol lower.now) name }
 {
     match find(upper, name) {
         Some(entry) => Some(entry),

@@ -4,8 +4,8 @@ use Rattle.names.specs.Env.{lookup, first_in}
 use Rattle.names.proofs.Unions.{apart_by, first_in_from}
 use Rattle.names.proofs.first_shared.Goals as goal
 
-pub returns-then-is-some : goal.returns-then-is-some
-returns-then-is-some g c =
+pub returns-then-is_some : goal.returns-then-is_some
+returns-then-is_some g c =
     let s = g.D.Named.symbol in
     let e = lookup g.E.Named.symbol c.args.taken.now in
     let h = first_in_from s c.args.entries.now c.loop-candidate.candidate-index c.candidate-item.result e c.loop-candidate-test.true c.candidate-item.is in

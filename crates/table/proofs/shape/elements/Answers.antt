@@ -5,8 +5,8 @@ use Rattle.table.proofs.Answered.{said_no}
 use Rattle.table.proofs.Children.{Counted, counted_more, counted_all, counted_next}
 use Rattle.table.proofs.shape.elements.Goals as goal
 
-pub returns-in-default : goal.returns-in-default
-returns-in-default c = said_no (λ m. c.in-default.ensures (counted_next _ _ _ _ _ _ c.loop-q.invariant c.loop-q-test.true m.0 m.2))
+pub returns-in_default : goal.returns-in_default
+returns-in_default c = said_no (λ m. c.in_default.ensures (counted_next _ _ _ _ _ _ c.loop-q.invariant c.loop-q-test.true m.0 m.2))
 
 pub loop-q-preserved : goal.loop-q-preserved
 loop-q-preserved c =

@@ -5,8 +5,8 @@ use Rattle.table.proofs.Answered.{said_no}
 use Rattle.table.proofs.Children.{next_child, next_children, with_child, last_child, no_child}
 use Rattle.table.proofs.shape.follow.Goals as goal
 
-pub returns-in-default : goal.returns-in-default
-returns-in-default c = said_no (λ f. c.in-default.ensures (next_child _ _ _ _ _ Nothing c.loop-class-test.true (c.loop-class.invariant.1 f)))
+pub returns-in_default : goal.returns-in_default
+returns-in_default c = said_no (λ f. c.in_default.ensures (next_child _ _ _ _ _ Nothing c.loop-class-test.true (c.loop-class.invariant.1 f)))
 
 pub loop-class-preserved : goal.loop-class-preserved
 loop-class-preserved c =

@@ -5,29 +5,29 @@ use Rattle.table.specs.declared.kinds.Row.{Row}
 use Rattle.table.proofs.Rows.{row_narrow, row_numbered}
 use Rattle.table.proofs.shape.is_laid.Goals as goal
 
-pub slice-bounds-follow-end : goal.slice-bounds-follow-end
-slice-bounds-follow-end c =
+pub slice_bounds-follow-end : goal.slice_bounds-follow-end
+slice_bounds-follow-end c =
     let k = (node_at c.args.nodes.now c.args.p).kind in
     let n = row_narrow k (omega arith) (omega arith) in
-    let e = ap (λ r. r.count) c.row-of-row.ensures in
-    let h : c.row-of-row.result.count ≤ 4 = omega (arith, n, e) in
+    let e = ap (λ r. r.count) c.row_of-row.ensures in
+    let h : c.row_of-row.result.count ≤ 4 = omega (arith, n, e) in
     search rules
 
 pub returns-in-List : goal.returns-in-List
 returns-in-List c =
     let k = (node_at c.args.nodes.now c.args.p).kind in
-    let two : k ≡ 2 = sym (row_numbered k (omega arith) (omega arith)) ∙ ap (λ r. number_of r.kind) (sym c.row-of-row.ensures) ∙ ap number_of c.in-List.is in (
-      λ t. record { lowest = omega arith; highest = omega arith; within = omega arith; children = (λ e. c.is-list.ensures.0 t, λ n. absurd (n two)) },
-      λ l. c.is-list.ensures.1 (l.children.0 two),
+    let two : k ≡ 2 = sym (row_numbered k (omega arith) (omega arith)) ∙ ap (λ r. number_of r.kind) (sym c.row_of-row.ensures) ∙ ap number_of c.in-List.is in (
+      λ t. record { lowest = omega arith; highest = omega arith; within = omega arith; children = (λ e. c.is_list.ensures.0 t, λ n. absurd (n two)) },
+      λ l. c.is_list.ensures.1 (l.children.0 two),
     )
 
-pub returns-in-default : goal.returns-in-default
-returns-in-default c =
+pub returns-in_default : goal.returns-in_default
+returns-in_default c =
     let ns = c.args.nodes.now in
     let n = node_at ns c.args.p in
-    let row = c.row-of-row.result in
-    let e = c.row-of-row.ensures in
-    let not-two : n.kind ≡ 2 → ⊥ = λ two. c.in-default.not-List (ap (λ r. r.kind) e ∙ ap (λ k. (row_of k).kind) two) in
+    let row = c.row_of-row.result in
+    let e = c.row_of-row.ensures in
+    let not-two : n.kind ≡ 2 → ⊥ = λ two. c.in_default.not-List (ap (λ r. r.kind) e ∙ ap (λ k. (row_of k).kind) two) in
     let From : ℕ → Row → Type 0 = λ m r. Follow ns (c.args.p + n.size) (take m (r.first ∷ r.second ∷ r.third ∷ r.fourth ∷ [])) (c.args.p + 1) in
     let all : row.count - 0 ≡ row.count = omega arith in (
       λ t. record { lowest = omega arith; highest = omega arith; within = omega arith; children = (λ two. absurd (not-two two), λ m. subst (λ r. From r.count r) e (subst (λ m. From m row) all (c.follow.ensures.0 t))) },

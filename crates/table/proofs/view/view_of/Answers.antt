@@ -10,15 +10,15 @@ use Rattle.table.proofs.view.view_of.Goals as goal
 pub head-requires : goal.head-requires
 head-requires c =
     let n = node_at c.args.nodes.now c.args.p in
-    let e = ap (λ r. number_of r.kind) c.row-of.ensures ∙ row_numbered n.kind c.requires.laid.lowest c.requires.laid.highest in
+    let e = ap (λ r. number_of r.kind) c.row_of.ensures ∙ row_numbered n.kind c.requires.laid.lowest c.requires.laid.highest in
     let P : ℕ → Type 0 = λ m. fits (row_of m).word n.word ≡ true in
     subst P (sym e) c.requires.worded
 
 pub returns : goal.returns
 returns c =
     let n = node_at c.args.nodes.now c.args.p in
-    let e = ap (λ r. number_of r.kind) c.row-of.ensures ∙ row_numbered n.kind c.requires.laid.lowest c.requires.laid.highest in
-    let v : c.head.result ≡ view c.args.nodes.now c.args.p = c.head.ensures ∙ view_from _ _ _ _ _ _ e c.past-part-b.ensures c.past-part-c.ensures c.past-part-d.ensures in
+    let e = ap (λ r. number_of r.kind) c.row_of.ensures ∙ row_numbered n.kind c.requires.laid.lowest c.requires.laid.highest in
+    let v : c.head.result ≡ view c.args.nodes.now c.args.p = c.head.ensures ∙ view_from _ _ _ _ _ _ e c.past_part-b.ensures c.past_part-c.ensures c.past_part-d.ensures in
     let ns = c.args.nodes.now in
     record {
       value = v;
