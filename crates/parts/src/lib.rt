@@ -1,4 +1,6 @@
 // The children of declarations, each with what the shape of the table says of it.
+#![tactic(auto)]
+
 ghost use Rattle.std.specs.Prelude.{◌≡◌, ◌+◌, [], ◌∷◌};
 ghost use Rattle.table.specs.Shape.{Formed, end_of};
 ghost use Rattle.table.specs.View.{view, named_expression, named_instruction, Stand};

@@ -1,4 +1,6 @@
 // The shape check as a function that C and Rust can call.
+#![tactic(auto)]
+
 ghost use Rattle.std.specs.Prelude.{◌≡◌};
 ghost use Rattle.table_c.specs.Told.{Told, place_of};
 

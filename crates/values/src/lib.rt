@@ -1,4 +1,6 @@
 // Values, and what a run computes from them.
+#![tactic(auto)]
+
 pub mod cases;
 pub mod casts;
 mod floats;

@@ -10,7 +10,7 @@ unreachable-requires c =
     let p = c.args.p in
     let b = kind_between OneClass (node_at T p) c.requires.class.admitted in
     let k : (node_at T p).kind ≡ 3 = omega (arith, b.0, b.1) in
-    c.in-default.not-DeclClass _ _ _ _ (c.view-of.ensures.value ∙ seen T p 3 k)
+    c.in_default.not-DeclClass _ _ _ _ (c.view_of.ensures.value ∙ seen T p 3 k)
 
 pub returns : goal.returns
 returns c =

@@ -25,7 +25,7 @@ unreachable-requires c =
     let v = x.1 in
     let w = y.1 in
     let i : c.instruction.result ≡ Evaluate y.0 = cc in
-    c.in-default.not-Evaluate y.0 i
+    c.in_default.not-Evaluate y.0 i
 
 pub returns : goal.returns
 returns c = record { view = c.in-Evaluate.ensures.view; stand = c.in-Evaluate.ensures.stand }

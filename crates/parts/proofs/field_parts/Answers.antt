@@ -10,7 +10,7 @@ unreachable-requires c =
     let p = c.args.p in
     let b = kind_between OneField (node_at T p) c.requires.class.admitted in
     let k : (node_at T p).kind ≡ 4 = omega (arith, b.0, b.1) in
-    c.in-default.not-DeclField _ _ _ _ (c.view-of.ensures.value ∙ seen T p 4 k)
+    c.in_default.not-DeclField _ _ _ _ (c.view_of.ensures.value ∙ seen T p 4 k)
 
 pub returns : goal.returns
 returns c =

@@ -12,7 +12,7 @@ unreachable-requires c =
     let p = c.args.p in
     let b = kind_between Instruction (node_at T p) c.requires.class.admitted in
     let x = executed (view T p) (λ i. true) (is_instruction T p b.0 b.1) in
-    c.in-default.not-Execute x.0 (c.view-of.ensures.value ∙ x.1)
+    c.in_default.not-Execute x.0 (c.view_of.ensures.value ∙ x.1)
 
 pub returns : goal.returns
 returns c =

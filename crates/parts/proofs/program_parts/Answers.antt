@@ -3,7 +3,7 @@ use Rattle.parts.proofs.Known.{seen, is_child}
 use Rattle.parts.proofs.program_parts.Goals as goal
 
 pub unreachable-requires : goal.unreachable-requires
-unreachable-requires c = c.in-default.not-Program _ _ (c.view-of.ensures.value ∙ seen c.args.nodes.now 0 1 c.requires.root.program)
+unreachable-requires c = c.in_default.not-Program _ _ (c.view_of.ensures.value ∙ seen c.args.nodes.now 0 1 c.requires.root.program)
 
 pub returns : goal.returns
 returns c =

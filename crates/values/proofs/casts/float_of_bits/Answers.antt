@@ -1,8 +1,8 @@
 use Rattle.values.proofs.Finite.{no_nan, below, above}
 use Rattle.values.proofs.casts.float_of_bits.Goals as goal
 
-pub float-from-bits-result : goal.float-from-bits-result
-float-from-bits-result c = simp (no_nan c.args.bits c.if-bits-lt-INFINITY.true) tt
+pub float_from_bits-result : goal.float_from_bits-result
+float_from_bits-result c = simp (no_nan c.args.bits c.if-bits-lt-INFINITY.true) tt
 
 pub returns-then-bits-lt-INFINITY : goal.returns-then-bits-lt-INFINITY
 returns-then-bits-lt-INFINITY c = below c.args.bits c.if-bits-lt-INFINITY.true

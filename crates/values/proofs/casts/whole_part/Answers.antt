@@ -6,8 +6,8 @@ use Rattle.values.proofs.casts.whole_part.Goals.{else-x-via-then-x+else-x-2, els
 
 pub returns-then-x-2 : goal.returns-then-x-2
 returns-then-x-2 c =
-    let f : SFits w32 c.saturating-f64-to-i32.result = search rules in
-    ap (λ z. Some z) (to_z-of_z w32 c.saturating-f64-to-i32.result f ∙ c.saturating-f64-to-i32.ensures)
+    let f : SFits w32 c.saturating_f64_to_i32.result = search rules in
+    ap (λ z. Some z) (to_z-of_z w32 c.saturating_f64_to_i32.result f ∙ c.saturating_f64_to_i32.ensures)
     ∙ inside c.args.x c.if-x.true c.if-x-2.true
 
 pub returns-else-x : goal.returns-else-x

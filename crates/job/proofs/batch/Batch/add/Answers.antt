@@ -6,7 +6,7 @@ use Rattle.job.proofs.batch.Batch.add.Goals as goal
 pub returns-then-len-lt-ROOM : goal.returns-then-len-lt-ROOM
 returns-then-len-lt-ROOM c =
     let room : length (vec_items c.args.self.now.nodes) < 1025 = omega (arith, c.args.self.now.nodes.ok.0) in
-    let items = c.push-reserved.ensures.items ∙ kept_more 1025 (vec_items c.args.self.now.nodes) c.args.node room in
+    let items = c.push_reserved.ensures.items ∙ kept_more 1025 (vec_items c.args.self.now.nodes) c.args.node room in
     record { items = items; whole = λ written h. items ∙ ap (λ ns. kept 1025 ns c.args.node) h ∙ kept_front 1025 written c.args.node }
 
 pub returns-else-len-lt-ROOM : goal.returns-else-len-lt-ROOM

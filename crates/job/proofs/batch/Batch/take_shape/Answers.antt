@@ -5,9 +5,9 @@ use Rattle.job.proofs.batch.Batch.take_shape.Goals as goal
 
 pub returns : goal.returns
 returns c =
-    let verdict : Judged (vec_items c.args.self.now.nodes) c.check-shape-shape.result = subst (λ ns. Judged ns c.check-shape-shape.result) c.as-slice.ensures.value c.check-shape-shape.ensures.verdict in
+    let verdict : Judged (vec_items c.args.self.now.nodes) c.check_shape-shape.result = subst (λ ns. Judged ns c.check_shape-shape.result) c.as_slice.ensures.value c.check_shape-shape.ensures.verdict in
     record {
       verdict = verdict;
-      whole = λ written h. judged_whole written c.check-shape-shape.result (subst (λ ns. Judged ns c.check-shape-shape.result) h verdict);
+      whole = λ written h. judged_whole written c.check_shape-shape.result (subst (λ ns. Judged ns c.check_shape-shape.result) h verdict);
       after = search rules;
     }

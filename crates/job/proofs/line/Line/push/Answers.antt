@@ -9,7 +9,7 @@ returns-then-len-lt-LIMIT c =
     let front = vec_items c.args.self.now.bytes in
     let long = c.args.self.now.too_long in
     let room : length front < 65536 = omega (arith, c.args.self.now.bytes.ok.0) in
-    let items : vec_items c.push-reserved.new.self ≡ kept 65536 front c.args.byte = c.push-reserved.ensures.items ∙ kept_more 65536 front c.args.byte room in
+    let items : vec_items c.push_reserved.new.self ≡ kept 65536 front c.args.byte = c.push_reserved.ensures.items ∙ kept_more 65536 front c.args.byte room in
     let flag : long ≡ (long || leb 65536 (length front)) = grind (arith, nat_tests) in
     record {
       bytes = items;
