@@ -1,4 +1,6 @@
 // The types of Deca: classes and their super-classes, the relations on types, and the types that operators give.
+#![tactic(auto)]
+
 pub mod class;
 pub mod operators;
 pub mod subtypes;

@@ -5,7 +5,7 @@ use Rattle.types.proofs.Typing.{instance_reference, instance_class}
 use Rattle.types.proofs.operators.allows_instance_of.Goals as goal
 
 pub returns-in-Class : goal.returns-in-Class
-returns-in-Class c = Decides-like _ (λ r. rw c.in-Class.is (instance r)) instance_reference c.is-reference.ensures
+returns-in-Class c = Decides-like _ (λ r. rw c.in-Class.is (instance r)) instance_reference c.is_reference.ensures
 
-pub returns-in-default : goal.returns-in-default
-returns-in-default c = said_no (instance_class c.in-default.not-Class)
+pub returns-in_default : goal.returns-in_default
+returns-in_default c = said_no (instance_class c.in_default.not-Class)

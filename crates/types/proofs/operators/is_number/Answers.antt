@@ -7,5 +7,5 @@ use Rattle.types.proofs.operators.is_number.Goals as goal
 pub returns-in-Int : goal.returns-in-Int
 returns-in-Int c = said_yes (elim c.in-Int.is [ inl e ↦ subst Number (sym e) Number.int | inr e ↦ subst Number (sym e) Number.float ])
 
-pub returns-in-default : goal.returns-in-default
-returns-in-default c = said_no (number_types c.in-default.not-Int c.in-default.not-Float)
+pub returns-in_default : goal.returns-in_default
+returns-in_default c = said_no (number_types c.in_default.not-Int c.in_default.not-Float)

@@ -7,5 +7,5 @@ use Rattle.types.proofs.operators.is_reference.Goals as goal
 pub returns-in-Class : goal.returns-in-Class
 returns-in-Class c = said_yes (elim c.in-Class.is [ inl p ↦ subst Reference (sym p.1) Reference.class | inr e ↦ subst Reference (sym e) Reference.null ])
 
-pub returns-in-default : goal.returns-in-default
-returns-in-default c = said_no (reference_types c.in-default.not-Class c.in-default.not-Null)
+pub returns-in_default : goal.returns-in_default
+returns-in_default c = said_no (reference_types c.in_default.not-Class c.in_default.not-Null)

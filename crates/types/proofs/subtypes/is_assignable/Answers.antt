@@ -15,4 +15,4 @@ returns-then-eq-2 c =
 pub returns : goal.returns
 returns c =
     let n : c.args.declared ≡ Float → c.args.value ≡ Int → ⊥ = search rules in
-    Decides-like _ under (assigned_under n) c.is-subtype.ensures.answer
+    Decides-like _ under (assigned_under n) c.is_subtype.ensures.answer

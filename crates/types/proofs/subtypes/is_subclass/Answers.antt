@@ -7,8 +7,8 @@ use Rattle.types.specs.Subtypes.Subtype.{same, climb}
 use Rattle.types.proofs.Climbing.{no_lower, parent_under, none_above}
 use Rattle.types.proofs.subtypes.is_subclass.Goals as goal
 
-pub returns-in-default : goal.returns-in-default
-returns-in-default c = said_no (λ s. none_above _ c.requires.ordered _ _ (sym c.in-default.ensures) c.loop-class-test.true (c.loop-class.invariant.1 s))
+pub returns-in_default : goal.returns-in_default
+returns-in_default c = said_no (λ s. none_above _ c.requires.ordered _ _ (sym c.in_default.ensures) c.loop-class-test.true (c.loop-class.invariant.1 s))
 
 pub loop-class-smaller : goal.loop-class-smaller
 loop-class-smaller c = c.requires.ordered.lower _ _ (sym c.in-Some.ensures)

@@ -7,16 +7,16 @@ use Rattle.types.proofs.Climbing.{under_plain, plain_under, null_known}
 use Rattle.types.proofs.Growing.{laws}
 use Rattle.types.proofs.subtypes.is_subtype.Goals as goal
 
-pub returns-in-default : goal.returns-in-default
-returns-in-default c =
+pub returns-in_default : goal.returns-in_default
+returns-in_default c =
     let d : Decides c.eq.result (c.args.lower ≡ c.args.upper) = search rules in
     record {
-      answer = Decides-like _ (λ e. subst (λ t. Subtype c.args.classes.now c.args.lower t) e same) (under_plain _ c.in-default.not-Class) d;
+      answer = Decides-like _ (λ e. subst (λ t. Subtype c.args.classes.now c.args.lower t) e same) (under_plain _ c.in_default.not-Class) d;
       laws = laws _ c.requires.ordered;
     }
 
 pub returns-in-Class-lower : goal.returns-in-Class-lower
-returns-in-Class-lower c = record { answer = rw (c.in-Class.is, c.in-Class-lower.is) c.is-subclass.ensures; laws = laws _ c.requires.ordered }
+returns-in-Class-lower c = record { answer = rw (c.in-Class.is, c.in-Class-lower.is) c.is_subclass.ensures; laws = laws _ c.requires.ordered }
 
 pub returns-in-Null : goal.returns-in-Null
 returns-in-Null c =
@@ -25,9 +25,9 @@ returns-in-Null c =
       laws = laws _ c.requires.ordered;
     }
 
-pub returns-in-default-lower : goal.returns-in-default-lower
-returns-in-default-lower c =
+pub returns-in_default-lower : goal.returns-in_default-lower
+returns-in_default-lower c =
     record {
-      answer = rw c.in-Class.is (said_no (plain_under _ c.in-default-lower.not-Class c.in-default-lower.not-Null));
+      answer = rw c.in-Class.is (said_no (plain_under _ c.in_default-lower.not-Class c.in_default-lower.not-Null));
       laws = laws _ c.requires.ordered;
     }
