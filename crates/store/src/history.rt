@@ -21,7 +21,7 @@ pub enum Change {
 
 // Makes one change, or none where the store refuses it.
 fn apply<S: Store>(store: &mut S, change: Change)
-    ensures { model store.new ≡ changed (model store.old) change }
+    ensures { S.model store.new ≡ changed (S.model store.old) change }
 {
     match change {
         Change::Create { class, cells } => {
@@ -40,9 +40,9 @@ fn apply<S: Store>(store: &mut S, change: Change)
 // Clears a store and makes the changes one by one. After any changes to any store, the records and the records left
 // are R together, and the cells used and the cells left are C.
 pub fn replay<S: Store>(store: &mut S, changes: &[Change])
-    ensures after { model store.new ≡ played (cleared most widest) changes.now }
-    ensures balance { Balance most widest (model store.new) }
-    ensures always { Balances most widest }
+    ensures after { S.model store.new ≡ played (cleared S.most S.widest) changes.now }
+    ensures balance { Balance S.most S.widest (S.model store.new) }
+    ensures always { Balances S.most S.widest }
 {
     store.clear();
     for change in changes {

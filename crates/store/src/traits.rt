@@ -47,7 +47,7 @@ pub trait Store {
 
     ghost sizes: { (s : Self) → (1 ≤ most) × (most ≤ 1000) × (widest ≤ 2000) };
 
-    ghost records: { (s : Self) → length (model s).records + (model s).«records_left» ≡ most };
+    ghost records: { (s : Self) → length (model s).records + (model s).records_left ≡ most };
 
-    ghost cells: { (s : Self) → «cells_used» (model s).records + (model s).«cells_left» ≡ widest };
+    ghost cells: { (s : Self) → cells_used (model s).records + (model s).cells_left ≡ widest };
 }
