@@ -1,4 +1,6 @@
 // The library of a workspace: the classes that were accepted, their members, their nodes, and the answers about them.
+#![tactic(auto)]
+
 pub mod attribute;
 pub mod counts;
 pub mod definition;

@@ -1,4 +1,6 @@
 // Plays the job on standard input, and prints its answers.
+#![tactic(auto)]
+
 use job::answer::Answer;
 use job::session::Session;
 use std::io;

@@ -5,5 +5,5 @@ use Rattle.library.proofs.growth.leave_blank.Goals as goal
 
 pub loop-place-preserved : goal.loop-place-preserved
 loop-place-preserved c =
-    let t = replicate_more c.loop-place.-place Nothing in
+    let t = replicate_more c.loop-place._place Nothing in
     (search (rules, t, append_assoc), search rules, search rules)

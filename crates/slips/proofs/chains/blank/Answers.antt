@@ -8,8 +8,8 @@ use Rattle.slips.proofs.chains.blank.Goals as goal
 there : (c : goal.In-loop) → c.loop.next < length c.loop.slots
 there c = omega (arith, c.loop.invariant.0, after_within c.args.slots.now c.args.count c.args.first c.loop.counter c.loop-test.true c.requires)
 
-pub offset-bounds-slots-next : goal.offset-bounds-slots-next
-offset-bounds-slots-next c = let h = there c in search rules
+pub offset_bounds-slots-next : goal.offset_bounds-slots-next
+offset_bounds-slots-next c = let h = there c in search rules
 
 pub bounds-slots-next : goal.bounds-slots-next
 bounds-slots-next c = there c

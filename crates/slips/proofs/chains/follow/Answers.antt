@@ -6,8 +6,8 @@ use Rattle.slips.proofs.chains.follow.Goals as goal
 there : (c : goal.In-loop) → c.loop.at < length c.args.slots.now
 there c = omega (arith, c.loop.invariant, after_within c.args.slots.now c.args.links c.args.first c.loop.counter c.loop-test.true c.requires)
 
-pub offset-bounds-slots-at : goal.offset-bounds-slots-at
-offset-bounds-slots-at c = let h = there c in search rules
+pub offset_bounds-slots-at : goal.offset_bounds-slots-at
+offset_bounds-slots-at c = let h = there c in search rules
 
 pub bounds-slots-at : goal.bounds-slots-at
 bounds-slots-at c = there c

@@ -5,12 +5,12 @@ use Rattle.library.proofs.Orders.{ordered_push}
 use Rattle.library.proofs.Kept.{ordered, placed_push}
 use Rattle.library.proofs.held.Library.add_class.Goals as goal
 
-pub invariant-of-self : goal.invariant-of-self
-invariant-of-self c =
+pub invariant_of-self : goal.invariant_of-self
+invariant_of-self c =
     let l = c.args.self.now in
     let n : c.len-number.result ≡ length (vec_items l.classes) = search rules in
-    let e : vec_items c.push-reserved.new.self ≡ vec_items l.classes ++ record { name = c.args.name; number = length (vec_items l.classes); parent = Some c.args.parent } ∷ [] = c.push-reserved.ensures.items ∙ ap (λ k. vec_items l.classes ++ record { name = c.args.name; number = k; parent = Some c.args.parent } ∷ []) n in
-    let o : Ordered (vec_items c.push-reserved.new.self) = subst Ordered (sym e) (ordered_push (vec_items l.classes) c.args.name c.args.parent (ordered l) c.requires.parent) in
+    let e : vec_items c.push_reserved.new.self ≡ vec_items l.classes ++ record { name = c.args.name; number = length (vec_items l.classes); parent = Some c.args.parent } ∷ [] = c.push_reserved.ensures.items ∙ ap (λ k. vec_items l.classes ++ record { name = c.args.name; number = k; parent = Some c.args.parent } ∷ []) n in
+    let o : Ordered (vec_items c.push_reserved.new.self) = subst Ordered (sym e) (ordered_push (vec_items l.classes) c.args.name c.args.parent (ordered l) c.requires.parent) in
     let q = placed_push (vec_items l.layouts) _ (vec_len l.members) (vec_len l.members) l.placed (omega arith) (omega arith, omega (arith, c.len-end.ensures), omega arith) in
-    let p : (k : ℕ) → Placed (layout_at (vec_items c.push-reserved-2.new.self) k) (vec_len l.members) = subst (λ ls. (k : ℕ) → Placed (layout_at ls k) (vec_len l.members)) (sym c.push-reserved-2.ensures.items) q in
+    let p : (k : ℕ) → Placed (layout_at (vec_items c.push_reserved-2.new.self) k) (vec_len l.members) = subst (λ ls. (k : ℕ) → Placed (layout_at ls k) (vec_len l.members)) (sym c.push_reserved-2.ensures.items) q in
     (search rules, (o.object, (o.numbered, (o.lower, (o.rooted, (search rules, (p, (search rules, (search rules, (search rules, (search rules, (search rules, (search rules, (search rules, (search rules, (search rules, tt))))))))))))))))

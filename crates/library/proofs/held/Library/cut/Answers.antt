@@ -4,8 +4,8 @@ use Rattle.library.specs.Members.{layout_at, Placed}
 use Rattle.library.proofs.Kept.{ordered}
 use Rattle.library.proofs.held.Library.cut.Goals as goal
 
-pub invariant-of-self : goal.invariant-of-self
-invariant-of-self c =
+pub invariant_of-self : goal.invariant_of-self
+invariant_of-self c =
     let l = c.args.self.now in
     let old = c.requires.0 in
     let e = c.requires.1 in

@@ -8,16 +8,16 @@ use Rattle.rows.specs.Cuts.{tiles_push}
 use Rattle.rows.specs.Found.{added}
 use Rattle.rows.proofs.held.Rows.add.Goals as goal
 
-pub invariant-of-self : goal.invariant-of-self
-invariant-of-self g c =
+pub invariant_of-self : goal.invariant_of-self
+invariant_of-self g c =
     let s = c.args.self.now in
     let h : Head = record { class = c.args.class; first = c.len-first.result; count = c.args.count } in
-    let e = vec_len c.add-nulls.new.cells in
-    let t = tiles_push (vec_items s.heads) h 0 (vec_len s.cells) e s.tiled c.len-first.ensures (sym c.add-nulls.ensures.len) in
-    (s.least, (s.most, (s.widest, (omega arith, (omega arith, (omega arith, (omega arith, (subst (λ hs. tiles hs 0 e ≡ true) (sym c.push-reserved.ensures.items) t, tt))))))))
+    let e = vec_len c.add_nulls.new.cells in
+    let t = tiles_push (vec_items s.heads) h 0 (vec_len s.cells) e s.tiled c.len-first.ensures (sym c.add_nulls.ensures.len) in
+    (s.least, (s.most, (s.widest, (omega arith, (omega arith, (omega arith, (omega arith, (subst (λ hs. tiles hs 0 e ≡ true) (sym c.push_reserved.ensures.items) t, tt))))))))
 
 pub returns : goal.returns
 returns g c =
     let s = c.args.self.now in
     let r : room (meaning s) c.args.count ≡ true = grind (arith, nat_tests) in
-    record { told = sym r; after = added s _ _ c.args.class c.args.count c.len-first.result c.push-reserved.ensures.items c.add-nulls.ensures.items }
+    record { told = sym r; after = added s _ _ c.args.class c.args.count c.len-first.result c.push_reserved.ensures.items c.add_nulls.ensures.items }

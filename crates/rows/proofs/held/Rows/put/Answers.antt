@@ -5,9 +5,9 @@ use Rattle.rows.specs.Meaning.{meaning}
 use Rattle.rows.specs.Found.{none_at, reach, value_absent, value_there, value_written}
 use Rattle.rows.proofs.held.Rows.put.Goals as goal
 
-pub returns-in-default : goal.returns-in-default
-returns-in-default g c =
-    let none = ap (λ o. cell_in o c.args.cell) (none_at c.args.self.now c.args.record c.in-default.ensures) in
+pub returns-in_default : goal.returns-in_default
+returns-in_default g c =
+    let none = ap (λ o. cell_in o c.args.cell) (none_at c.args.self.now c.args.record c.in_default.ensures) in
     record { told = sym (ap is_some none); after = sym (absent (meaning c.args.self.now) c.args.record c.args.cell c.args.value none) }
 
 pub returns-then-cell-head : goal.returns-then-cell-head
@@ -15,8 +15,8 @@ returns-then-cell-head g c =
     let none = value_absent c.args.self.now c.args.record _ c.in-Some.ensures c.args.cell c.if-cell-head.true in
     record { told = sym (ap is_some none); after = sym (absent (meaning c.args.self.now) c.args.record c.args.cell c.args.value none) }
 
-pub index-mut-requires : goal.index-mut-requires
-index-mut-requires g c = let r = reach c.args.self.now c.args.record _ c.in-Some.ensures in omega arith
+pub index_mut-requires : goal.index_mut-requires
+index_mut-requires g c = let r = reach c.args.self.now c.args.record _ c.in-Some.ensures in omega arith
 
 pub returns : goal.returns
 returns g c =

@@ -3,8 +3,8 @@ use Rattle.store.specs.Model.{cell_in}
 use Rattle.rows.specs.Found.{none_at, reach, value_absent, value_there}
 use Rattle.rows.proofs.held.Rows.value_at.Goals as goal
 
-pub returns-in-default : goal.returns-in-default
-returns-in-default g c = sym (ap (λ o. cell_in o c.args.cell) (none_at c.args.self.now c.args.record c.in-default.ensures))
+pub returns-in_default : goal.returns-in_default
+returns-in_default g c = sym (ap (λ o. cell_in o c.args.cell) (none_at c.args.self.now c.args.record c.in_default.ensures))
 
 pub returns-then-cell-head : goal.returns-then-cell-head
 returns-then-cell-head g c = sym (value_absent c.args.self.now c.args.record _ c.in-Some.ensures c.args.cell c.if-cell-head.true)

@@ -14,7 +14,7 @@ use Rattle.slips.proofs.slips.Slips.add.Goals as goal
 pub blank-self-requires : goal.blank-self-requires
 blank-self-requires g c =
     let s = c.args.self.now in
-    ap (λ ss. within ss (chain ss c.args.cells s.free)) c.deref-mut.ensures.value
+    ap (λ ss. within ss (chain ss c.args.cells s.free)) c.deref_mut.ensures.value
     ∙ front_there s.slots.items s.heads.items s.free s.space s.chains c.args.cells c.args.class (omega arith)
 
 -- what the walk leaves in the slots
@@ -23,8 +23,8 @@ blank_slots v ws us k f e d =
     let same : ws ≡ nulled v.items (chain v.items k f) = e ∙ ap (λ ss. nulled ss (chain ss k f)) d in
     with_items_is v ws (ap length same ∙ length_nulled v.items (chain v.items k f) ∙ sym v.ok.0) ∙ same
 
-pub invariant-of-self : goal.invariant-of-self
-invariant-of-self g c =
+pub invariant_of-self : goal.invariant_of-self
+invariant_of-self g c =
     let s = c.args.self.now in
     let ss = s.slots.items in
     let hs = s.heads.items in
@@ -39,11 +39,11 @@ invariant-of-self g c =
           (
             omega arith,
             (
-              omega (arith, ap counts c.push-reserved.ensures.items, counts_push hs h),
+              omega (arith, ap counts c.push_reserved.ensures.items, counts_push hs h),
               (
-                ap (λ us. linked us c.push-reserved.new.self.items c.blank-self.result (s.space - k)) (blank_slots s.slots c.blank-self.new.slots c.deref-mut.result.now k s.free c.blank-self.ensures.nulls c.deref-mut.ensures.value)
-                    ∙ ap (λ gs. linked (nulled ss (chain ss k s.free)) gs c.blank-self.result (s.space - k)) c.push-reserved.ensures.items
-                    ∙ ap (λ f. linked (nulled ss (chain ss k s.free)) (hs ++ h ∷ []) f (s.space - k)) (c.blank-self.ensures.end ∙ ap (λ us. after us k s.free) c.deref-mut.ensures.value)
+                ap (λ us. linked us c.push_reserved.new.self.items c.blank-self.result (s.space - k)) (blank_slots s.slots c.blank-self.new.slots c.deref_mut.result.now k s.free c.blank-self.ensures.nulls c.deref_mut.ensures.value)
+                    ∙ ap (λ gs. linked (nulled ss (chain ss k s.free)) gs c.blank-self.result (s.space - k)) c.push_reserved.ensures.items
+                    ∙ ap (λ f. linked (nulled ss (chain ss k s.free)) (hs ++ h ∷ []) f (s.space - k)) (c.blank-self.ensures.end ∙ ap (λ us. after us k s.free) c.deref_mut.ensures.value)
                     ∙ created_linked ss hs s.free s.space s.chains k c.args.class fits,
                 tt,
               ),
@@ -62,7 +62,7 @@ returns g c =
     let fits : k ≤ s.space = omega arith in
     record {
       told = sym (and_from (ltb 0 s.spare) (leb k s.space) (lt-ltb 0 s.spare (omega arith)) (le-leb k s.space fits));
-      after = ap (λ us. model_of us c.push-reserved.new.self.items (s.spare - 1) (s.space - k)) (blank_slots s.slots c.blank-self.new.slots c.deref-mut.result.now k s.free c.blank-self.ensures.nulls c.deref-mut.ensures.value)
-          ∙ ap (λ gs. model_of (nulled ss (chain ss k s.free)) gs (s.spare - 1) (s.space - k)) c.push-reserved.ensures.items
+      after = ap (λ us. model_of us c.push_reserved.new.self.items (s.spare - 1) (s.space - k)) (blank_slots s.slots c.blank-self.new.slots c.deref_mut.result.now k s.free c.blank-self.ensures.nulls c.deref_mut.ensures.value)
+          ∙ ap (λ gs. model_of (nulled ss (chain ss k s.free)) gs (s.spare - 1) (s.space - k)) c.push_reserved.ensures.items
           ∙ ap (λ (rs : List Rec). record { records = rs; records_left = s.spare - 1; cells_left = s.space - k }) (created_records ss hs s.free s.space s.chains k c.args.class fits);
     }

@@ -4,8 +4,8 @@ use Rattle.slips.specs.Chains.{counts}
 use Rattle.slips.proofs.Fresh.{fresh_empty}
 use Rattle.slips.proofs.slips.Slips.refill.Goals as goal
 
-pub invariant-of-self : goal.invariant-of-self
-invariant-of-self g c =
+pub invariant_of-self : goal.invariant_of-self
+invariant_of-self g c =
     let s = c.args.self.now in
     let ws = c.relink.new.slots in (
       s.sizes,
