@@ -1,7 +1,6 @@
 -- Chains of slots: where they run, and what they hold.
-use Rattle.std.specs.Prelude.{◌≡◌, ℕ, zero, suc, ◌+◌, ◌<◌, Bool, ◌&&◌, List, [], ◌∷◌, ◌++◌, map, length, Some, None, Option, nat_eq, nat_lt, slice_index_or, slice_set}
+use Rattle.std.specs.Prelude.{◌≡◌, ℕ, zero, suc, ◌+◌, ◌<◌, Bool, true, not, ◌==◌, ◌&&◌, List, [], ◌∷◌, ◌++◌, map, length, Some, None, Option, nat_eq, nat_lt, slice_index_or, slice_set}
 use Rattle.std.specs.List.{slice_get, list_all}
-use Rattle.std.specs.Map.Invariant.{is-distinct}
 use Rattle.values.specs.declared.value.Value.{Value}
 use Rattle.values.specs.declared.value.Value.TheVariants.{Null}
 use Rattle.store.specs.Model.{Rec, Records}
@@ -48,6 +47,11 @@ nulled ss (x ∷ xs) = nulled (with_slot ss x Null) xs
 abbrev pub InOrder : List Slot → Type 0
 InOrder ss = (k : ℕ) → k < length ss → (slot ss k).next ≡ k + 1
 
+-- whether no number comes twice
+abbrev pub is_distinct : List ℕ → Bool
+is_distinct [] = true
+is_distinct (x ∷ xs) = list_all (λ y. not (x == y)) xs && is_distinct xs
+
 -- the slots of all records
 abbrev pub used : List Slot → List Head → List ℕ
 used ss [] = []
@@ -59,7 +63,7 @@ every ss hs free space = used ss hs ++ chain ss space free
 
 -- whether the chains of the records and the free chain are there and meet nowhere
 abbrev pub linked : List Slot → List Head → ℕ → ℕ → Bool
-linked ss hs free space = is-distinct nat_eq (every ss hs free space) && within ss (every ss hs free space)
+linked ss hs free space = is_distinct (every ss hs free space) && within ss (every ss hs free space)
 
 -- how many cells the records have
 abbrev pub counts : List Head → ℕ

@@ -3,7 +3,6 @@ use Rattle.std.specs.Prelude.{◌≡◌, ℕ, zero, suc, ◌+◌, ◌-◌, ◌<�
 use Rattle.std.proofs.Common.{sym, ap, ◌∙◌, arith}
 use Rattle.std.specs.List.{slice_get, list_all}
 use Rattle.std.specs.Option.{option_map}
-use Rattle.std.specs.Map.Invariant.{is-distinct}
 use Rattle.std.proofs.lemmas.List.{append_assoc, map-append, length-map}
 use Rattle.std.proofs.lemmas.Bool.{and_parts, ltb-true}
 use Rattle.values.specs.declared.value.Value.{Value}
@@ -11,7 +10,7 @@ use Rattle.values.specs.declared.value.Value.TheVariants.{Null}
 use Rattle.store.specs.Model.{Rec, blank, record_at, cell_in, cell_at, with_value_at, with_cell, cells_used}
 use Rattle.slips.specs.declared.slot.Slot.{Slot}
 use Rattle.slips.specs.declared.slot.Head.{Head}
-use Rattle.slips.specs.Chains.{slot, after, chain, value_at, within, with_slot, nulled, used, every, linked, counts, rec_of, model_of, head_at, slot_in, slot_at}
+use Rattle.slips.specs.Chains.{is_distinct, slot, after, chain, value_at, within, with_slot, nulled, used, every, linked, counts, rec_of, model_of, head_at, slot_in, slot_at}
 use Rattle.slips.specs.Passing.{outside, all_parts, all_nth, distinct_left, right_outside}
 use Rattle.slips.specs.Walking.{length_chain, chain_split, front_within, used_push, used_nth}
 use Rattle.slips.specs.Writing.{SameLinks, chain_same, used_same, records_here, length_nulled, nulled_links, nulled_values, nulled_records}
@@ -33,7 +32,7 @@ cells_counted ss (h ∷ hs) =
 -- links and number of the slots say whether they are linked
 pub linked_same : (ts ss : List Slot) (hs : List Head) (f n : ℕ) → SameLinks ts ss → length ts ≡ length ss → linked ts hs f n ≡ linked ss hs f n
 linked_same ts ss hs f n same long =
-    let sound : ℕ → List ℕ → Bool = λ k xs. is-distinct nat_eq xs && list_all (λ x. nat_lt x k) xs in
+    let sound : ℕ → List ℕ → Bool = λ k xs. is_distinct xs && list_all (λ x. nat_lt x k) xs in
     ap (λ k. sound k (every ts hs f n)) long ∙ ap (λ us. sound (length ss) (us ++ chain ts n f)) (used_same ts ss same hs) ∙ ap (λ xs. sound (length ss) (used ss hs ++ xs)) (chain_same ts ss same n f)
 
 module _ (ss : List Slot) (hs : List Head) where
@@ -51,11 +50,11 @@ module _ (ss : List Slot) (hs : List Head) where
   cell_is r j s n = ap (λ o. cell_in o j) (record_is r s n) ∙ cell_of (head_at hs r) j
 
   module _ (f n : ℕ) (ok : linked ss hs f n ≡ true) where
-    all_distinct : is-distinct nat_eq (every ss hs f n) ≡ true
-    all_distinct = (and_parts (is-distinct nat_eq (every ss hs f n)) (within ss (every ss hs f n)) ok).0
+    all_distinct : is_distinct (every ss hs f n) ≡ true
+    all_distinct = (and_parts (is_distinct (every ss hs f n)) (within ss (every ss hs f n)) ok).0
 
     all_within : (within ss (used ss hs) ≡ true) × (within ss (chain ss n f) ≡ true)
-    all_within = all_parts (λ x. nat_lt x (length ss)) (used ss hs) (chain ss n f) (and_parts (is-distinct nat_eq (every ss hs f n)) (within ss (every ss hs f n)) ok).1
+    all_within = all_parts (λ x. nat_lt x (length ss)) (used ss hs) (chain ss n f) (and_parts (is_distinct (every ss hs f n)) (within ss (every ss hs f n)) ok).1
 
     -- the chain of a record is there
     pub head_within : (r : ℕ) (h : Head) → Some h ≡ head_at hs r → within ss (chain ss h.count h.first) ≡ true
@@ -107,7 +106,7 @@ module _ (ss : List Slot) (hs : List Head) where
       pub created_linked : linked (nulled ss front) (hs ++ head ∷ []) (after ss k f) (n - k) ≡ true
       created_linked =
           linked_same (nulled ss front) ss (hs ++ head ∷ []) (after ss k f) (n - k) (nulled_links ss front) (length_nulled ss front)
-          ∙ ap (λ xs. is-distinct nat_eq xs && within ss xs) every_same ∙ ok
+          ∙ ap (λ xs. is_distinct xs && within ss xs) every_same ∙ ok
 
       blank_cells : map (value_at (nulled ss front)) (chain (nulled ss front) k f) ≡ replicate k Null
       blank_cells =

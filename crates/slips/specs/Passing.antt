@@ -2,8 +2,8 @@
 use Rattle.std.specs.Prelude.{◌≡◌, ℕ, zero, suc, Bool, true, not, List, [], ◌∷◌, ◌++◌, Some, ◌==◌, nat_eq, refl}
 use Rattle.std.proofs.Common.{sym, ap, ◌∙◌, arith}
 use Rattle.std.specs.List.{slice_get, list_all}
-use Rattle.std.specs.Map.Invariant.{is-distinct}
 use Rattle.std.proofs.lemmas.Bool.{and_parts, and_from, not-true, not_from_false, eqb-false, ne_eqb}
+use Rattle.slips.specs.Chains.{is_distinct}
 
 pub all_parts : {X : Type 0} (p : X → Bool) (xs ys : List X) → list_all p (xs ++ ys) ≡ true → (list_all p xs ≡ true) × (list_all p ys ≡ true)
 all_parts p [] ys h = (refl, h)
@@ -37,24 +37,24 @@ outside_cons x xs (y ∷ ys) h k =
     (and_from (not (y == x)) (outside y xs) (other_way x y a.0) b.0) (outside_cons x xs ys a.1 b.1)
 
 -- the two parts of a list without repeats have none, and have no number in common
-pub distinct_left : (xs ys : List ℕ) → is-distinct nat_eq (xs ++ ys) ≡ true → is-distinct nat_eq xs ≡ true
+pub distinct_left : (xs ys : List ℕ) → is_distinct (xs ++ ys) ≡ true → is_distinct xs ≡ true
 distinct_left [] ys h = refl
 distinct_left (x ∷ xs) ys h =
-    let a = and_parts (outside x (xs ++ ys)) (is-distinct nat_eq (xs ++ ys)) h in
-    and_from (outside x xs) (is-distinct nat_eq xs) (all_parts (λ y. not (x == y)) xs ys a.0).0 (distinct_left xs ys a.1)
+    let a = and_parts (outside x (xs ++ ys)) (is_distinct (xs ++ ys)) h in
+    and_from (outside x xs) (is_distinct xs) (all_parts (λ y. not (x == y)) xs ys a.0).0 (distinct_left xs ys a.1)
 
-pub distinct_right : (xs ys : List ℕ) → is-distinct nat_eq (xs ++ ys) ≡ true → is-distinct nat_eq ys ≡ true
+pub distinct_right : (xs ys : List ℕ) → is_distinct (xs ++ ys) ≡ true → is_distinct ys ≡ true
 distinct_right [] ys h = h
-distinct_right (x ∷ xs) ys h = distinct_right xs ys (and_parts (outside x (xs ++ ys)) (is-distinct nat_eq (xs ++ ys)) h).1
+distinct_right (x ∷ xs) ys h = distinct_right xs ys (and_parts (outside x (xs ++ ys)) (is_distinct (xs ++ ys)) h).1
 
-pub left_outside : (xs ys : List ℕ) → is-distinct nat_eq (xs ++ ys) ≡ true → list_all (λ x. outside x ys) xs ≡ true
+pub left_outside : (xs ys : List ℕ) → is_distinct (xs ++ ys) ≡ true → list_all (λ x. outside x ys) xs ≡ true
 left_outside [] ys h = refl
 left_outside (x ∷ xs) ys h =
-    let a = and_parts (outside x (xs ++ ys)) (is-distinct nat_eq (xs ++ ys)) h in
+    let a = and_parts (outside x (xs ++ ys)) (is_distinct (xs ++ ys)) h in
     and_from (outside x ys) (list_all (λ z. outside z ys) xs) (all_parts (λ y. not (x == y)) xs ys a.0).1 (left_outside xs ys a.1)
 
-pub right_outside : (xs ys : List ℕ) → is-distinct nat_eq (xs ++ ys) ≡ true → list_all (λ y. outside y xs) ys ≡ true
+pub right_outside : (xs ys : List ℕ) → is_distinct (xs ++ ys) ≡ true → list_all (λ y. outside y xs) ys ≡ true
 right_outside [] ys h = outside_nil ys
 right_outside (x ∷ xs) ys h =
-    let a = and_parts (outside x (xs ++ ys)) (is-distinct nat_eq (xs ++ ys)) h in
+    let a = and_parts (outside x (xs ++ ys)) (is_distinct (xs ++ ys)) h in
     outside_cons x xs ys (all_parts (λ y. not (x == y)) xs ys a.0).1 (right_outside xs ys a.1)

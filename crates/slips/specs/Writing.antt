@@ -2,7 +2,6 @@
 use Rattle.std.specs.Prelude.{◌≡◌, ℕ, zero, suc, ◌<◌, true, not, List, [], ◌∷◌, ◌++◌, map, length, set, replicate, Some, ◌==◌, ◌≢◌, nat_eq, slice_index_or, slice_set, refl}
 use Rattle.std.proofs.Common.{sym, ap, ◌∙◌, ⊎_elim, arith, length-set}
 use Rattle.std.specs.List.{slice_get, list_all}
-use Rattle.std.specs.Map.Invariant.{is-distinct}
 use Rattle.std.proofs.lemmas.List.{get_or-set_same, get_or-set_other, get_or_read, set_past, get_or_past}
 use Rattle.std.proofs.lemmas.Bool.{and_parts, not-true, eqb-false, cases_eq, cases_lt}
 use Rattle.values.specs.declared.value.Value.{Value}
@@ -10,7 +9,7 @@ use Rattle.values.specs.declared.value.Value.TheVariants.{Null}
 use Rattle.store.specs.Model.{Rec, with_value, with_value_at}
 use Rattle.slips.specs.declared.slot.Slot.{Slot}
 use Rattle.slips.specs.declared.slot.Head.{Head}
-use Rattle.slips.specs.Chains.{no_slot, slot, chain, value_at, with_slot, nulled, used, rec_of}
+use Rattle.slips.specs.Chains.{is_distinct, no_slot, slot, chain, value_at, with_slot, nulled, used, rec_of}
 use Rattle.slips.specs.Passing.{outside, all_parts, all_nth, distinct_left, distinct_right, left_outside, right_outside}
 use Rattle.slips.specs.Walking.{used_nth}
 
@@ -69,24 +68,24 @@ module _ (ss : List Slot) (a : ℕ) (v : Value) where
       ap (λ (x : Rec). x ∷ map (rec_of ts) hs) (record_other h p.0) ∙ ap (λ xs. rec_of ss h ∷ xs) (records_other hs p.1)
 
   module _ (l : a < length ss) where
-    values_here : (xs : List ℕ) (j : ℕ) → slice_get xs j ≡ Some a → is-distinct nat_eq xs ≡ true → map (value_at ts) xs ≡ slice_set (map (value_at ss) xs) j v
+    values_here : (xs : List ℕ) (j : ℕ) → slice_get xs j ≡ Some a → is_distinct xs ≡ true → map (value_at ts) xs ≡ slice_set (map (value_at ss) xs) j v
     values_here [] j e d = let z : ◌≡◌ {A = ℕ} 0 1 = cc in absurd (omega arith)
     values_here (x ∷ xs) zero e d =
         let same : x ≡ a = cc in
-        let o = (and_parts (outside x xs) (is-distinct nat_eq xs) d).0 in
+        let o = (and_parts (outside x xs) (is_distinct xs) d).0 in
         ap (λ w. w ∷ map (value_at ts) xs) (ap (value_at ts) same ∙ value_here l) ∙ ap (λ ws. v ∷ ws) (values_other xs (ap (λ k. outside k xs) (sym same) ∙ o))
     values_here (x ∷ xs) (suc j) e d =
-        let p = and_parts (outside x xs) (is-distinct nat_eq xs) d in
+        let p = and_parts (outside x xs) (is_distinct xs) d in
         let apart : not (x == a) ≡ true = all_nth (λ y. not (x == y)) xs j a p.0 e in
         ap (λ w. w ∷ map (value_at ts) xs) (ap (λ (s : Slot). s.value) (other x (eqb-false x a (not-true (x == a) apart)))) ∙ ap (λ ws. value_at ss x ∷ ws) (values_here xs j e p.1)
 
-    record_here : (h : Head) (j : ℕ) → slice_get (chain ss h.count h.first) j ≡ Some a → is-distinct nat_eq (chain ss h.count h.first) ≡ true → rec_of ts h ≡ with_value (rec_of ss h) j v
+    record_here : (h : Head) (j : ℕ) → slice_get (chain ss h.count h.first) j ≡ Some a → is_distinct (chain ss h.count h.first) ≡ true → rec_of ts h ≡ with_value (rec_of ss h) j v
     record_here h j e d =
         ap (λ (ws : List Value). record { class = h.class; cells = ws })
         (ap (map (value_at ts)) (chain_same ts ss next_same h.count h.first) ∙ values_here (chain ss h.count h.first) j e d)
 
     -- the record that has the slot has one cell changed
-    pub records_here : (hs : List Head) (i j : ℕ) (h : Head) → slice_get hs i ≡ Some h → slice_get (chain ss h.count h.first) j ≡ Some a → is-distinct nat_eq (used ss hs) ≡ true → map (rec_of ts) hs ≡ with_value_at (map (rec_of ss) hs) i j v
+    pub records_here : (hs : List Head) (i j : ℕ) (h : Head) → slice_get hs i ≡ Some h → slice_get (chain ss h.count h.first) j ≡ Some a → is_distinct (used ss hs) ≡ true → map (rec_of ts) hs ≡ with_value_at (map (rec_of ss) hs) i j v
     records_here [] i j h at e d = let z : ◌≡◌ {A = ℕ} 0 1 = cc in absurd (omega arith)
     records_here (g ∷ hs) zero j h at e d =
         let same : h ≡ g = cc in

@@ -3,7 +3,7 @@ use Rattle.slips.specs.Chains.{slot, after}
 use Rattle.slips.specs.Walking.{after_within, after_more}
 use Rattle.slips.proofs.chains.follow.Goals as goal
 
-there : (c : goal.In-loop) → c.loop.at < length c.args.slots.now
+there : (c : goal.In-loop-unread) → c.loop.at < length c.args.slots.now
 there c = omega (arith, c.loop.invariant, after_within c.args.slots.now c.args.links c.args.first c.loop.counter c.loop-test.true c.requires)
 
 pub offset_bounds-slots-at : goal.offset_bounds-slots-at

@@ -13,4 +13,21 @@ invariant_of-self c =
     let o : Ordered (vec_items c.push_reserved.new.self) = subst Ordered (sym e) (ordered_push (vec_items l.classes) c.args.name c.args.parent (ordered l) c.requires.parent) in
     let q = placed_push (vec_items l.layouts) _ (vec_len l.members) (vec_len l.members) l.placed (omega arith) (omega arith, omega (arith, c.len-end.ensures), omega arith) in
     let p : (k : ℕ) → Placed (layout_at (vec_items c.push_reserved-2.new.self) k) (vec_len l.members) = subst (λ ls. (k : ℕ) → Placed (layout_at ls k) (vec_len l.members)) (sym c.push_reserved-2.ensures.items) q in
-    (search rules, (o.object, (o.numbered, (o.lower, (o.rooted, (search rules, (p, (search rules, (search rules, (search rules, (search rules, (search rules, (search rules, (search rules, (search rules, (search rules, tt))))))))))))))))
+    record {
+      some = search rules;
+      object = o.object;
+      numbered = o.numbered;
+      lower = o.lower;
+      rooted = o.rooted;
+      laid = search rules;
+      placed = p;
+      noted = search rules;
+      few_classes = search rules;
+      few_members = search rules;
+      few_nodes = search rules;
+      class_room = search rules;
+      layout_room = search rules;
+      member_room = search rules;
+      node_room = search rules;
+      attribute_room = search rules;
+    }

@@ -20,49 +20,22 @@ invariant_of-self c =
     let f' : vec_len c.truncate-4.new.self ≡ vec_len old.nodes = omega (arith, ap length f, c.truncate-4.new.self.ok.0, old.nodes.ok.0) in
     let g' : vec_len c.truncate-5.new.self ≡ vec_len old.attributes = omega (arith, ap length g, c.truncate-5.new.self.ok.0, old.attributes.ok.0) in
     let o : Ordered (vec_items c.truncate.new.self) = subst Ordered (sym a) (ordered old) in
-    let p = subst (λ n. (k : ℕ) → Placed (layout_at (vec_items c.truncate-2.new.self) k) n) (sym d') (subst (λ ls. (k : ℕ) → Placed (layout_at ls k) (vec_len old.members)) (sym b) old.placed) in (
-      omega (arith, a', old.some),
-      (
-        o.object,
-        (
-          o.numbered,
-          (
-            o.lower,
-            (
-              o.rooted,
-              (
-                omega (arith, a', b', old.laid),
-                (
-                  p,
-                  (
-                    omega (arith, f', g', old.noted),
-                    (
-                      omega (arith, a', old.few_classes),
-                      (
-                        omega (arith, d', f', old.few_members),
-                        (
-                          omega (arith, f', old.few_nodes),
-                          (
-                            omega (arith, l.class_room, c.truncate.ensures.capacity),
-                            (
-                              omega (arith, l.layout_room, c.truncate-2.ensures.capacity),
-                              (
-                                omega (arith, l.member_room, c.truncate-3.ensures.capacity),
-                                (
-                                  omega (arith, l.node_room, c.truncate-4.ensures.capacity),
-                                  (omega (arith, l.attribute_room, c.truncate-5.ensures.capacity), tt),
-                                ),
-                              ),
-                            ),
-                          ),
-                        ),
-                      ),
-                    ),
-                  ),
-                ),
-              ),
-            ),
-          ),
-        ),
-      ),
-    )
+    let p = subst (λ n. (k : ℕ) → Placed (layout_at (vec_items c.truncate-2.new.self) k) n) (sym d') (subst (λ ls. (k : ℕ) → Placed (layout_at ls k) (vec_len old.members)) (sym b) old.placed) in
+    record {
+      some = omega (arith, a', old.some);
+      object = o.object;
+      numbered = o.numbered;
+      lower = o.lower;
+      rooted = o.rooted;
+      laid = omega (arith, a', b', old.laid);
+      placed = p;
+      noted = omega (arith, f', g', old.noted);
+      few_classes = omega (arith, a', old.few_classes);
+      few_members = omega (arith, d', f', old.few_members);
+      few_nodes = omega (arith, f', old.few_nodes);
+      class_room = omega (arith, l.class_room, c.truncate.ensures.capacity);
+      layout_room = omega (arith, l.layout_room, c.truncate-2.ensures.capacity);
+      member_room = omega (arith, l.member_room, c.truncate-3.ensures.capacity);
+      node_room = omega (arith, l.node_room, c.truncate-4.ensures.capacity);
+      attribute_room = omega (arith, l.attribute_room, c.truncate-5.ensures.capacity);
+    }

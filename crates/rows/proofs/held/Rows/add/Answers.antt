@@ -14,7 +14,16 @@ invariant_of-self g c =
     let h : Head = record { class = c.args.class; first = c.len-first.result; count = c.args.count } in
     let e = vec_len c.add_nulls.new.cells in
     let t = tiles_push (vec_items s.heads) h 0 (vec_len s.cells) e s.tiled c.len-first.ensures (sym c.add_nulls.ensures.len) in
-    (s.least, (s.most, (s.widest, (omega arith, (omega arith, (omega arith, (omega arith, (subst (λ hs. tiles hs 0 e ≡ true) (sym c.push_reserved.ensures.items) t, tt))))))))
+    record {
+      least = s.least;
+      most = s.most;
+      widest = s.widest;
+      head_room = omega arith;
+      cell_room = omega arith;
+      records_kept = omega arith;
+      cells_kept = omega arith;
+      tiled = subst (λ hs. tiles hs 0 e ≡ true) (sym c.push_reserved.ensures.items) t;
+    }
 
 pub returns : goal.returns
 returns g c =

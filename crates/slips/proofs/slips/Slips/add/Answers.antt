@@ -30,28 +30,18 @@ invariant_of-self g c =
     let hs = s.heads.items in
     let k = c.args.cells in
     let h : Head = record { class = c.args.class; first = s.free; count = k } in
-    let fits : k ≤ s.space = omega arith in (
-      s.sizes,
-      (
-        omega arith,
-        (
-          s.filled,
-          (
-            omega arith,
-            (
-              omega (arith, ap counts c.push_reserved.ensures.items, counts_push hs h),
-              (
-                ap (λ us. linked us c.push_reserved.new.self.items c.blank-self.result (s.space - k)) (blank_slots s.slots c.blank-self.new.slots c.deref_mut.result.now k s.free c.blank-self.ensures.nulls c.deref_mut.ensures.value)
-                    ∙ ap (λ gs. linked (nulled ss (chain ss k s.free)) gs c.blank-self.result (s.space - k)) c.push_reserved.ensures.items
-                    ∙ ap (λ f. linked (nulled ss (chain ss k s.free)) (hs ++ h ∷ []) f (s.space - k)) (c.blank-self.ensures.end ∙ ap (λ us. after us k s.free) c.deref_mut.ensures.value)
-                    ∙ created_linked ss hs s.free s.space s.chains k c.args.class fits,
-                tt,
-              ),
-            ),
-          ),
-        ),
-      ),
-    )
+    let fits : k ≤ s.space = omega arith in
+    record {
+      sizes = s.sizes;
+      reserved = omega arith;
+      filled = s.filled;
+      records = omega arith;
+      cells = omega (arith, ap counts c.push_reserved.ensures.items, counts_push hs h);
+      chains = ap (λ us. linked us c.push_reserved.new.self.items c.blank-self.result (s.space - k)) (blank_slots s.slots c.blank-self.new.slots c.deref_mut.result.now k s.free c.blank-self.ensures.nulls c.deref_mut.ensures.value)
+          ∙ ap (λ gs. linked (nulled ss (chain ss k s.free)) gs c.blank-self.result (s.space - k)) c.push_reserved.ensures.items
+          ∙ ap (λ f. linked (nulled ss (chain ss k s.free)) (hs ++ h ∷ []) f (s.space - k)) (c.blank-self.ensures.end ∙ ap (λ us. after us k s.free) c.deref_mut.ensures.value)
+          ∙ created_linked ss hs s.free s.space s.chains k c.args.class fits;
+    }
 
 pub returns : goal.returns
 returns g c =

@@ -21,19 +21,12 @@ invariant_of-result g c =
     let made = c.in_ok-heads.ensures in
     let filled = c.in_ok-slots.ensures in
     let ws = c.relink.new.slots in
-    let long : c.in_ok-slots.slots.len ≡ g.row.CELLS = filled.len in (
-      allowed_from g.row.RECORDS g.row.CELLS (omega arith) (omega arith) (omega arith),
-      (
-        made.capacity,
-        (
-          long,
-          (
-            omega arith,
-            (
-              omega (arith, ap counts made.items),
-              (fresh_empty _ ws _ g.row.CELLS c.relink.ensures (with_items_is c.in_ok-slots.slots ws (omega arith)) made.items (omega arith), tt),
-            ),
-          ),
-        ),
-      ),
-    )
+    let long : c.in_ok-slots.slots.len ≡ g.row.CELLS = filled.len in
+    record {
+      sizes = allowed_from g.row.RECORDS g.row.CELLS (omega arith) (omega arith) (omega arith);
+      reserved = made.capacity;
+      filled = long;
+      records = omega arith;
+      cells = omega (arith, ap counts made.items);
+      chains = fresh_empty _ ws _ g.row.CELLS c.relink.ensures (with_items_is c.in_ok-slots.slots ws (omega arith)) made.items (omega arith);
+    }

@@ -25,26 +25,16 @@ invariant_of-self g c =
     let s = c.args.self.now in
     let ss = s.slots.items in
     let at = c.in-Some.at in
-    let l = slot_within ss s.heads.items s.free s.space s.chains c.args.record c.args.cell at c.in-Some.ensures in (
-      s.sizes,
-      (
-        s.reserved,
-        (
-          s.filled,
-          (
-            s.records,
-            (
-              s.cells,
-              (
-                ap (λ us. linked us s.heads.items s.free s.space) (with_read ss at c.index_mut.result.now c.args.value l c.index_mut.ensures.value)
-                    ∙ linked_same (with_slot ss at c.args.value) ss s.heads.items s.free s.space (next_same ss at c.args.value) (length-set ss at _) ∙ s.chains,
-                tt,
-              ),
-            ),
-          ),
-        ),
-      ),
-    )
+    let l = slot_within ss s.heads.items s.free s.space s.chains c.args.record c.args.cell at c.in-Some.ensures in
+    record {
+      sizes = s.sizes;
+      reserved = s.reserved;
+      filled = s.filled;
+      records = s.records;
+      cells = s.cells;
+      chains = ap (λ us. linked us s.heads.items s.free s.space) (with_read ss at c.index_mut.result.now c.args.value l c.index_mut.ensures.value)
+          ∙ linked_same (with_slot ss at c.args.value) ss s.heads.items s.free s.space (next_same ss at c.args.value) (length-set ss at _) ∙ s.chains;
+    }
 
 pub returns : goal.returns
 returns g c =
