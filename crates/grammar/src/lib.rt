@@ -1,4 +1,6 @@
 // The grammars of Deca, pass by pass, over a batch and the library that it is to join.
+#![tactic(auto)]
+
 pub mod declare;
 pub mod fault;
 mod fields;

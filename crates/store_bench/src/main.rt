@@ -1,5 +1,7 @@
 // Times the operations of both stores at the tablets' size. What it computes goes to standard output and is always the
 // same; the times go to standard error. `bench/stores` runs it beside a plain Rust version.
+#![tactic(auto)]
+
 use anyhow::anyhow;
 use rows::held::Rows;
 use slips::slips::Slips;

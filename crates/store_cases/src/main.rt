@@ -1,5 +1,7 @@
 // Drives two stores with the same operations, many of them refused, and prints every answer.
 // `tools/stores.py` makes the same operations on a model of its own and writes down what is expected.
+#![tactic(auto)]
+
 ghost use Rattle.std.specs.Prelude.{◌<◌};
 
 use anyhow::anyhow;

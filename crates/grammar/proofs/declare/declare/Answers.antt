@@ -10,12 +10,12 @@ use Rattle.grammar.proofs.Exits.{exit}
 use Rattle.grammar.proofs.Whole.{numbered, put_back, members_left}
 use Rattle.grammar.proofs.declare.declare.Goals as goal
 
-pub declare-classes-requires : goal.declare-classes-requires
-declare-classes-requires c =
+pub declare_classes-requires : goal.declare_classes-requires
+declare_classes-requires c =
     let T = c.args.batch.now in
     let w = contents c.args.library.now in
-    let r = c.requires.classes _ _ _ _ c.program-parts.ensures.view c.elements-list.ensures.view in
-    record { formed = c.requires.formed; room = subst (λ u. Room T u c.elements-list.result.first c.elements-list.result.end) (sym c.keep-nodes.ensures) (record { count = r.count; row = r.row; fits = r.fits }) }
+    let r = c.requires.classes _ _ _ _ c.program_parts.ensures.view c.elements-list.ensures.view in
+    record { formed = c.requires.formed; room = subst (λ u. Room T u c.elements-list.result.first c.elements-list.result.end) (sym c.keep_nodes.ensures) (record { count = r.count; row = r.row; fits = r.fits }) }
 
 pub drop-extension-requires : goal.drop-extension-requires
 drop-extension-requires c =
@@ -23,66 +23,66 @@ drop-extension-requires c =
     let l = c.args.library.now in
     let s = c.counts-saved.result in
     let e = c.counts-saved.ensures in
-    let u = contents c.declare-classes.new.library in
-    let t = c.declare-classes.ensures.untouched s.members s (omega (arith, ap (λ x. x.classes) e, ap (λ x. length x.classes) c.keep-nodes.ensures)) (omega arith) ∙ ap (cut_to s) c.keep-nodes.ensures in
+    let u = contents c.declare_classes.new.library in
+    let t = c.declare_classes.ensures.untouched s.members s (omega (arith, ap (λ x. x.classes) e, ap (λ x. length x.classes) c.keep_nodes.ensures)) (omega arith) ∙ ap (cut_to s) c.keep_nodes.ensures in
     (l, put_back l T s u e t)
 
-pub returns-in-err-declare-classes : goal.returns-in-err-declare-classes
-returns-in-err-declare-classes c =
+pub returns-in_err-declare_classes : goal.returns-in_err-declare_classes
+returns-in_err-declare_classes c =
     let T = c.args.batch.now in
     let l = c.args.library.now in
     let s = c.counts-saved.result in
     let e = c.counts-saved.ensures in
-    let u = contents c.declare-classes.new.library in
-    let t = c.declare-classes.ensures.untouched s.members s (omega (arith, ap (λ x. x.classes) e, ap (λ x. length x.classes) c.keep-nodes.ensures)) (omega arith) ∙ ap (cut_to s) c.keep-nodes.ensures in
-    let b = subst (λ w. BreaksOne T c.elements-list.result.end w c.elements-list.result.first c.in-err-declare-classes.field-0.0) c.keep-nodes.ensures c.in-err-declare-classes.ensures.rules in
-    let f = in_one c.program-parts.ensures.view c.elements-list.ensures.view b in
-    record { rules = exit _ _ c.from-residual.result _ c.from-residual.ensures.1 (f, c.drop-extension.ensures ∙ put_back l T s u e t); decided = decided T (contents l) }
+    let u = contents c.declare_classes.new.library in
+    let t = c.declare_classes.ensures.untouched s.members s (omega (arith, ap (λ x. x.classes) e, ap (λ x. length x.classes) c.keep_nodes.ensures)) (omega arith) ∙ ap (cut_to s) c.keep_nodes.ensures in
+    let b = subst (λ w. BreaksOne T c.elements-list.result.end w c.elements-list.result.first c.in_err-declare_classes.field-0.0) c.keep_nodes.ensures c.in_err-declare_classes.ensures.rules in
+    let f = in_one c.program_parts.ensures.view c.elements-list.ensures.view b in
+    record { rules = exit _ _ c.from_residual.result _ c.from_residual.ensures.1 (f, c.drop-extension.ensures ∙ put_back l T s u e t); decided = decided T (contents l) }
 
-pub complete-classes-requires : goal.complete-classes-requires
-complete-classes-requires c =
+pub complete_classes-requires : goal.complete_classes-requires
+complete_classes-requires c =
     let T = c.args.batch.now in
     let l = c.args.library.now in
     let a = c.elements-list.result.first in
     let e = c.elements-list.result.end in
-    let u = contents c.declare-classes.new.library in
-    let r = c.requires.classes _ _ _ _ c.program-parts.ensures.view c.elements-list.ensures.view in
-    let d = subst (λ w. DeclaresAll T e w a u) c.keep-nodes.ensures c.in-ok-declare-classes.ensures.rules in
+    let u = contents c.declare_classes.new.library in
+    let r = c.requires.classes _ _ _ _ c.program_parts.ensures.view c.elements-list.ensures.view in
+    let d = subst (λ w. DeclaresAll T e w a u) c.keep_nodes.ensures c.in_ok-declare_classes.ensures.rules in
     record { formed = c.requires.formed; numbered = subst (λ s. Numbered T u s.nodes s.classes a e) (sym c.counts-saved.ensures) (numbered l T u a e r d) }
 
-pub drop-extension-requires-in-err-complete-classes : goal.drop-extension-requires-in-err-complete-classes
-drop-extension-requires-in-err-complete-classes c =
+pub drop-extension-requires-in_err-complete_classes : goal.drop-extension-requires-in_err-complete_classes
+drop-extension-requires-in_err-complete_classes c =
     let T = c.args.batch.now in
     let l = c.args.library.now in
     let s = c.counts-saved.result in
     let e = c.counts-saved.ensures in
     let a = c.elements-list.result.first in
     let o = c.elements-list.result.end in
-    let u = contents c.declare-classes.new.library in
-    let v = contents c.complete-classes.new.library in
-    let r = c.requires.classes _ _ _ _ c.program-parts.ensures.view c.elements-list.ensures.view in
-    let d = subst (λ w. DeclaresAll T o w a u) c.keep-nodes.ensures c.in-ok-declare-classes.ensures.rules in
-    let t = c.declare-classes.ensures.untouched s.members s (omega (arith, ap (λ x. x.classes) e, ap (λ x. length x.classes) c.keep-nodes.ensures)) (omega arith) ∙ ap (cut_to s) c.keep-nodes.ensures in
-    let y = c.complete-classes.ensures.untouched s (omega arith) (omega (arith, ap (λ x. x.members) e, members_left l T u a o r d)) ∙ t in
+    let u = contents c.declare_classes.new.library in
+    let v = contents c.complete_classes.new.library in
+    let r = c.requires.classes _ _ _ _ c.program_parts.ensures.view c.elements-list.ensures.view in
+    let d = subst (λ w. DeclaresAll T o w a u) c.keep_nodes.ensures c.in_ok-declare_classes.ensures.rules in
+    let t = c.declare_classes.ensures.untouched s.members s (omega (arith, ap (λ x. x.classes) e, ap (λ x. length x.classes) c.keep_nodes.ensures)) (omega arith) ∙ ap (cut_to s) c.keep_nodes.ensures in
+    let y = c.complete_classes.ensures.untouched s (omega arith) (omega (arith, ap (λ x. x.members) e, members_left l T u a o r d)) ∙ t in
     (l, put_back l T s v e y)
 
-pub returns-in-err-complete-classes : goal.returns-in-err-complete-classes
-returns-in-err-complete-classes c =
+pub returns-in_err-complete_classes : goal.returns-in_err-complete_classes
+returns-in_err-complete_classes c =
     let T = c.args.batch.now in
     let l = c.args.library.now in
     let s = c.counts-saved.result in
     let e = c.counts-saved.ensures in
     let a = c.elements-list.result.first in
     let o = c.elements-list.result.end in
-    let u = contents c.declare-classes.new.library in
-    let v = contents c.complete-classes.new.library in
-    let r = c.requires.classes _ _ _ _ c.program-parts.ensures.view c.elements-list.ensures.view in
-    let d = subst (λ w. DeclaresAll T o w a u) c.keep-nodes.ensures c.in-ok-declare-classes.ensures.rules in
-    let t = c.declare-classes.ensures.untouched s.members s (omega (arith, ap (λ x. x.classes) e, ap (λ x. length x.classes) c.keep-nodes.ensures)) (omega arith) ∙ ap (cut_to s) c.keep-nodes.ensures in
-    let y = c.complete-classes.ensures.untouched s (omega arith) (omega (arith, ap (λ x. x.members) e, members_left l T u a o r d)) ∙ t in
-    let b = subst (λ k. BreaksTwo T k.nodes o u k.classes a c.in-err-complete-classes.field-0.0) e c.in-err-complete-classes.ensures.rules in
-    let f = in_two c.program-parts.ensures.view c.elements-list.ensures.view d b in
-    record { rules = exit _ _ c.from-residual-in-err-complete-classes.result _ c.from-residual-in-err-complete-classes.ensures.1 (f, c.drop-extension-in-err-complete-classes.ensures ∙ put_back l T s v e y); decided = decided T (contents l) }
+    let u = contents c.declare_classes.new.library in
+    let v = contents c.complete_classes.new.library in
+    let r = c.requires.classes _ _ _ _ c.program_parts.ensures.view c.elements-list.ensures.view in
+    let d = subst (λ w. DeclaresAll T o w a u) c.keep_nodes.ensures c.in_ok-declare_classes.ensures.rules in
+    let t = c.declare_classes.ensures.untouched s.members s (omega (arith, ap (λ x. x.classes) e, ap (λ x. length x.classes) c.keep_nodes.ensures)) (omega arith) ∙ ap (cut_to s) c.keep_nodes.ensures in
+    let y = c.complete_classes.ensures.untouched s (omega arith) (omega (arith, ap (λ x. x.members) e, members_left l T u a o r d)) ∙ t in
+    let b = subst (λ k. BreaksTwo T k.nodes o u k.classes a c.in_err-complete_classes.field-0.0) e c.in_err-complete_classes.ensures.rules in
+    let f = in_two c.program_parts.ensures.view c.elements-list.ensures.view d b in
+    record { rules = exit _ _ c.from_residual-in_err-complete_classes.result _ c.from_residual-in_err-complete_classes.ensures.1 (f, c.drop-extension-in_err-complete_classes.ensures ∙ put_back l T s v e y); decided = decided T (contents l) }
 
 pub returns : goal.returns
 returns c =
@@ -91,9 +91,9 @@ returns c =
     let w = contents l in
     let a = c.elements-list.result.first in
     let e = c.elements-list.result.end in
-    let u = contents c.declare-classes.new.library in
-    let v = contents c.complete-classes.new.library in
-    let d = subst (λ w. DeclaresAll T e w a u) c.keep-nodes.ensures c.in-ok-declare-classes.ensures.rules in
-    let k = subst (λ s. CompletesAll T s.nodes e u s.classes a v) c.counts-saved.ensures c.in-ok-complete-classes.ensures.rules in
-    let g = declared c.program-parts.ensures.view c.elements-list.ensures.view d k in
+    let u = contents c.declare_classes.new.library in
+    let v = contents c.complete_classes.new.library in
+    let d = subst (λ w. DeclaresAll T e w a u) c.keep_nodes.ensures c.in_ok-declare_classes.ensures.rules in
+    let k = subst (λ s. CompletesAll T s.nodes e u s.classes a v) c.counts-saved.ensures c.in_ok-complete_classes.ensures.rules in
+    let g = declared c.program_parts.ensures.view c.elements-list.ensures.view d k in
     record { rules = subst (λ x. Declared T w (contents x)) (sym c.accept.ensures) g; decided = decided T w }

@@ -18,11 +18,11 @@ use Rattle.grammar.proofs.fields.declare_fields.Goals as goal
 pub loop-q-init : goal.loop-q-init
 loop-q-init c = gathered_none _ _ _ _ _ _ _ c.requires.row
 
-pub field-parts-place-requires : goal.field-parts-place-requires
-field-parts-place-requires c = record { formed = c.requires.ready.formed; class = (row_next _ OneField _ _ _ c.loop-q.invariant.row.1 c.loop-q-test.true).here }
+pub field_parts-place-requires : goal.field_parts-place-requires
+field_parts-place-requires c = record { formed = c.requires.ready.formed; class = (row_next _ OneField _ _ _ c.loop-q.invariant.row.1 c.loop-q-test.true).here }
 
-pub overflow-sub-before : goal.overflow-sub-before
-overflow-sub-before c = omega (arith, gathered_longer _ _ _ _ _ _ _ _ _ c.loop-q.invariant, c.member-count-first.ensures, c.member-count.ensures)
+pub overflow_sub-before : goal.overflow_sub-before
+overflow_sub-before c = omega (arith, gathered_longer _ _ _ _ _ _ _ _ _ c.loop-q.invariant, c.member_count-first.ensures, c.member_count.ensures)
 
 pub field-requires : goal.field-requires
 field-requires c =
@@ -30,52 +30,52 @@ field-requires c =
     record {
       ready = gathered_ready _ _ _ _ _ _ _ _ _ _ _ c.requires.ready i;
       field = (row_next _ OneField _ _ _ i.row.1 c.loop-q-test.true).here;
-      before = gathered_few _ _ _ _ _ _ _ _ _ _ _ c.requires.ready.formed.few c.loop-q-test.true c.member-count.ensures c.member-count-first.ensures i;
+      before = gathered_few _ _ _ _ _ _ _ _ _ _ _ c.requires.ready.formed.few c.loop-q-test.true c.member_count.ensures c.member_count-first.ensures i;
     }
 
-pub returns-in-err-member : goal.returns-in-err-member
-returns-in-err-member c =
+pub returns-in_err-member : goal.returns-in_err-member
+returns-in_err-member c =
     let T = c.args.nodes.now in
     let l = c.args.library.now in
     let s = c.args.site in
     let x = scope (contents l) s.class s.parent s.kept in
     let i = c.loop-q.invariant in
-    let y = c.in-err-member.field-0.0 in
-    let h = carried_err _ _ _ c.field.result c.around.result y c.around.ensures c.field.ensures c.in-err-member.was in
+    let y = c.in_err-member.field-0.0 in
+    let h = carried_err _ _ _ c.field.result c.around.result y c.around.ensures c.field.ensures c.in_err-member.was in
     let b = subst (λ z. BreaksField T z c.loop-q.q y.1) (gathered_scope _ _ _ _ _ _ _ _ _ s.class s.parent s.kept (placed_in l) i) h.1 in
-    let f = i.bad _ (here c.loop-q-test.true c.field-parts-place.ensures.view b) in
+    let f = i.bad _ (here c.loop-q-test.true c.field_parts-place.ensures.view b) in
     record {
-      rules = exit _ _ c.from-residual.result _ c.from-residual.ensures.1 (subst (λ z. BreaksFields T x c.args.list.end [] c.args.list.first (in_member z y.1)) (sym (h.0 ∙ c.symbol.ensures)) f);
+      rules = exit _ _ c.from_residual.result _ c.from_residual.ensures.1 (subst (λ z. BreaksFields T x c.args.list.end [] c.args.list.first (in_member z y.1)) (sym (h.0 ∙ c.symbol.ensures)) f);
       grows = i.grown;
       few = omega (arith, i.few, c.loop-q-test.true);
     }
 
-pub add-new-requires : goal.add-new-requires
-add-new-requires c =
+pub add_new-requires : goal.add_new-requires
+add_new-requires c =
     let i = c.loop-q.invariant in
     record {
-      first = omega (arith, gathered_longer _ _ _ _ _ _ _ _ _ i, c.member-count-first.ensures);
+      first = omega (arith, gathered_longer _ _ _ _ _ _ _ _ _ i, c.member_count-first.ensures);
       room = gathered_room _ _ _ _ _ _ _ _ _ _ _ c.requires.ready c.requires.room c.loop-q-test.true i;
     }
 
-pub returns-in-err-add-new : goal.returns-in-err-add-new
-returns-in-err-add-new c =
+pub returns-in_err-add_new : goal.returns-in_err-add_new
+returns-in_err-add_new c =
     let T = c.args.nodes.now in
     let l = c.args.library.now in
     let s = c.args.site in
     let x = scope (contents l) s.class s.parent s.kept in
     let i = c.loop-q.invariant in
     let q = c.loop-q.q in
-    let m = c.in-ok-member.member in
-    let h = carried_ok _ _ _ c.field.result c.around.result m c.around.ensures c.field.ensures c.in-ok-member.was in
-    let z = subst (λ y. FieldIs T y (c.member-count.result - c.member-count-first.result) q m) (gathered_scope _ _ _ _ _ _ _ _ _ s.class s.parent s.kept (placed_in l) i) h in
-    let d = subst (λ n. FieldIs T x n q m) (gathered_count _ _ _ _ _ _ _ _ _ _ _ c.member-count.ensures c.member-count-first.ensures i) z in
-    let g = c.in-err-add-new.ensures in
-    let o = ap (λ n. lookup called (drop n (contents c.loop-q.library).members) m.name) (sym c.member-count-first.ensures) ∙ g.0.1 in
-    let f = i.bad _ (repeated c.loop-q-test.true c.field-parts-place.ensures.view d o) in
-    let k = ap (λ y. in_member y (broken Fields c.field-parts-place.result.name)) (sym (field_name _ _ _ d c.field-parts-place.ensures.view)) ∙ sym g.1 in
+    let m = c.in_ok-member.member in
+    let h = carried_ok _ _ _ c.field.result c.around.result m c.around.ensures c.field.ensures c.in_ok-member.was in
+    let z = subst (λ y. FieldIs T y (c.member_count.result - c.member_count-first.result) q m) (gathered_scope _ _ _ _ _ _ _ _ _ s.class s.parent s.kept (placed_in l) i) h in
+    let d = subst (λ n. FieldIs T x n q m) (gathered_count _ _ _ _ _ _ _ _ _ _ _ c.member_count.ensures c.member_count-first.ensures i) z in
+    let g = c.in_err-add_new.ensures in
+    let o = ap (λ n. lookup called (drop n (contents c.loop-q.library).members) m.name) (sym c.member_count-first.ensures) ∙ g.0.1 in
+    let f = i.bad _ (repeated c.loop-q-test.true c.field_parts-place.ensures.view d o) in
+    let k = ap (λ y. in_member y (broken Fields c.field_parts-place.result.name)) (sym (field_name _ _ _ d c.field_parts-place.ensures.view)) ∙ sym g.1 in
     record {
-      rules = exit _ _ c.from-residual-in-err-add-new.result _ c.from-residual-in-err-add-new.ensures.1 (subst (BreaksFields T x c.args.list.end [] c.args.list.first) k f);
+      rules = exit _ _ c.from_residual-in_err-add_new.result _ c.from_residual-in_err-add_new.ensures.1 (subst (BreaksFields T x c.args.list.end [] c.args.list.first) k f);
       grows = subst (λ w. w ≡ more_members (contents l) (added (contents l) w)) (sym g.2) i.grown;
       few = omega (arith, i.few, c.loop-q-test.true, ap (λ w. length w.members) g.2);
     }
@@ -88,12 +88,12 @@ loop-q-preserved c =
     let x = scope (contents l) s.class s.parent s.kept in
     let i = c.loop-q.invariant in
     let q = c.loop-q.q in
-    let m = c.in-ok-member.member in
-    let h = carried_ok _ _ _ c.field.result c.around.result m c.around.ensures c.field.ensures c.in-ok-member.was in
-    let z = subst (λ y. FieldIs T y (c.member-count.result - c.member-count-first.result) q m) (gathered_scope _ _ _ _ _ _ _ _ _ s.class s.parent s.kept (placed_in l) i) h in
-    let d = subst (λ n. FieldIs T x n q m) (gathered_count _ _ _ _ _ _ _ _ _ _ _ c.member-count.ensures c.member-count-first.ensures i) z in
-    let g = c.in-ok-add-new.ensures in
-    let o = ap (λ n. lookup called (drop n (contents c.loop-q.library).members) m.name) (sym c.member-count-first.ensures) ∙ g.0 in
+    let m = c.in_ok-member.member in
+    let h = carried_ok _ _ _ c.field.result c.around.result m c.around.ensures c.field.ensures c.in_ok-member.was in
+    let z = subst (λ y. FieldIs T y (c.member_count.result - c.member_count-first.result) q m) (gathered_scope _ _ _ _ _ _ _ _ _ s.class s.parent s.kept (placed_in l) i) h in
+    let d = subst (λ n. FieldIs T x n q m) (gathered_count _ _ _ _ _ _ _ _ _ _ _ c.member_count.ensures c.member_count-first.ensures i) z in
+    let g = c.in_ok-add_new.ensures in
+    let o = ap (λ n. lookup called (drop n (contents c.loop-q.library).members) m.name) (sym c.member_count-first.ensures) ∙ g.0 in
     gathered_more _ _ _ _ _ _ _ _ _ q m c.loop-q-test.true g.1 (λ G k. more c.loop-q-test.true d o k) (λ f k. later c.loop-q-test.true d o k) i
 
 pub returns : goal.returns

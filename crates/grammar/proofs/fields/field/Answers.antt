@@ -8,33 +8,33 @@ use Rattle.grammar.proofs.Exits.{exit}
 use Rattle.grammar.proofs.Made.{same_field}
 use Rattle.grammar.proofs.fields.field.Goals as goal
 
-pub returns-in-err-of : goal.returns-in-err-of
-returns-in-err-of c =
-    let h = c.in-err-of.ensures in
+pub returns-in_err-of : goal.returns-in_err-of
+returns-in_err-of c =
+    let h = c.in_err-of.ensures in
     let w = contents c.args.library.now in
-    exit _ _ c.from-residual.result _ c.from-residual.ensures.1 (subst (BreaksField c.args.nodes.now (scope w c.args.site.class c.args.site.parent c.args.site.kept) c.args.p) (sym h.1) (no_type c.field-parts-parts.ensures.view h.0))
+    exit _ _ c.from_residual.result _ c.from_residual.ensures.1 (subst (BreaksField c.args.nodes.now (scope w c.args.site.class c.args.site.parent c.args.site.kept) c.args.p) (sym h.1) (no_type c.field_parts-parts.ensures.view h.0))
 
 pub returns-then-eq : goal.returns-then-eq
 returns-then-eq c =
-    let e : c.in-ok-of.of ≡ Void = search rules in
-    let n : Names c.args.nodes.now (contents c.args.library.now).classes c.field-parts-parts.result.of Void = subst (Names c.args.nodes.now (contents c.args.library.now).classes c.field-parts-parts.result.of) e c.in-ok-of.ensures in
-    void c.field-parts-parts.ensures.view n
+    let e : c.in_ok-of.of ≡ Void = search rules in
+    let n : Names c.args.nodes.now (contents c.args.library.now).classes c.field_parts-parts.result.of Void = subst (Names c.args.nodes.now (contents c.args.library.now).classes c.field_parts-parts.result.of) e c.in_ok-of.ensures in
+    void c.field_parts-parts.ensures.view n
 
-pub returns-then-not-may-hide : goal.returns-then-not-may-hide
-returns-then-not-may-hide c =
+pub returns-then-not-may_hide : goal.returns-then-not-may_hide
+returns-then-not-may_hide c =
     let w = contents c.args.library.now in
-    let e : c.in-ok-of.of ≡ Void → ⊥ = search rules in
-    let i : c.member-named.result ≡ environment w c.args.site.parent (symbol_at c.args.nodes.now c.field-parts-parts.result.name) = c.member-named.ensures ∙ ap (environment w c.args.site.parent) c.symbol-name.ensures in
-    let n : Hides c.member-named.result → ⊥ = search rules in
-    hides c.field-parts-parts.ensures.view c.in-ok-of.ensures e (λ h. n (subst Hides (sym i) h))
+    let e : c.in_ok-of.of ≡ Void → ⊥ = search rules in
+    let i : c.member_named.result ≡ environment w c.args.site.parent (symbol_at c.args.nodes.now c.field_parts-parts.result.name) = c.member_named.ensures ∙ ap (environment w c.args.site.parent) c.symbol-name.ensures in
+    let n : Hides c.member_named.result → ⊥ = search rules in
+    hides c.field_parts-parts.ensures.view c.in_ok-of.ensures e (λ h. n (subst Hides (sym i) h))
 
 pub returns : goal.returns
 returns c =
     let w = contents c.args.library.now in
-    let e : c.in-ok-of.of ≡ Void → ⊥ = search rules in
-    let i : c.member-named.result ≡ environment w c.args.site.parent (symbol_at c.args.nodes.now c.field-parts-parts.result.name) = c.member-named.ensures ∙ ap (environment w c.args.site.parent) c.symbol-name.ensures in
-    let n : Hides c.member-named.result = search rules in
-    let d = field c.field-parts-parts.ensures.view c.in-ok-of.ensures e (subst Hides i n) in
+    let e : c.in_ok-of.of ≡ Void → ⊥ = search rules in
+    let i : c.member_named.result ≡ environment w c.args.site.parent (symbol_at c.args.nodes.now c.field_parts-parts.result.name) = c.member_named.ensures ∙ ap (environment w c.args.site.parent) c.symbol-name.ensures in
+    let n : Hides c.member_named.result = search rules in
+    let d = field c.field_parts-parts.ensures.view c.in_ok-of.ensures e (subst Hides i n) in
     subst (FieldIs c.args.nodes.now (scope w c.args.site.class c.args.site.parent c.args.site.kept) c.args.before c.args.p)
     (same_field _ _ _ (sym c.symbol-name.ensures) (sym c.visibility.ensures) (ap (λ k. k + c.args.before) (sym c.cells.ensures.value)))
     d

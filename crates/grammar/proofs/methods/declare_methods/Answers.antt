@@ -18,8 +18,8 @@ use Rattle.grammar.proofs.methods.declare_methods.Goals as goal
 pub loop-q-init : goal.loop-q-init
 loop-q-init c = gathered_none _ _ _ _ _ _ _ c.requires.row
 
-pub method-parts-place-requires : goal.method-parts-place-requires
-method-parts-place-requires c = record { formed = c.requires.ready.formed; class = (row_next _ OneMethod _ _ _ c.loop-q.invariant.row.1 c.loop-q-test.true).here }
+pub method_parts-place-requires : goal.method_parts-place-requires
+method_parts-place-requires c = record { formed = c.requires.ready.formed; class = (row_next _ OneMethod _ _ _ c.loop-q.invariant.row.1 c.loop-q-test.true).here }
 
 pub method-requires : goal.method-requires
 method-requires c =
@@ -29,48 +29,48 @@ method-requires c =
       method = (row_next _ OneMethod _ _ _ i.row.1 c.loop-q-test.true).here;
     }
 
-pub returns-in-err-member : goal.returns-in-err-member
-returns-in-err-member c =
+pub returns-in_err-member : goal.returns-in_err-member
+returns-in_err-member c =
     let T = c.args.nodes.now in
     let l = c.args.library.now in
     let s = c.args.site in
     let x = scope (contents l) s.class s.parent s.kept in
     let i = c.loop-q.invariant in
-    let y = c.in-err-member.field-0.0 in
-    let h = carried_err _ _ _ c.method.result c.around.result y c.around.ensures c.method.ensures c.in-err-member.was in
+    let y = c.in_err-member.field-0.0 in
+    let h = carried_err _ _ _ c.method.result c.around.result y c.around.ensures c.method.ensures c.in_err-member.was in
     let b = subst (λ z. BreaksMethod T z c.loop-q.q y.1) (gathered_scope _ _ _ _ _ _ _ _ _ s.class s.parent s.kept (placed_in l) i) h.1 in
-    let f = i.bad _ (here c.loop-q-test.true c.method-parts-place.ensures.view b) in
+    let f = i.bad _ (here c.loop-q-test.true c.method_parts-place.ensures.view b) in
     record {
-      rules = exit _ _ c.from-residual.result _ c.from-residual.ensures.1 (subst (λ z. BreaksMethods T x c.args.list.end [] c.args.list.first (in_member z y.1)) (sym (h.0 ∙ c.symbol.ensures)) f);
+      rules = exit _ _ c.from_residual.result _ c.from_residual.ensures.1 (subst (λ z. BreaksMethods T x c.args.list.end [] c.args.list.first (in_member z y.1)) (sym (h.0 ∙ c.symbol.ensures)) f);
       grows = i.grown;
       few = omega (arith, i.few, c.loop-q-test.true);
     }
 
-pub add-new-requires : goal.add-new-requires
-add-new-requires c =
+pub add_new-requires : goal.add_new-requires
+add_new-requires c =
     let i = c.loop-q.invariant in
     record {
-      first = omega (arith, gathered_longer _ _ _ _ _ _ _ _ _ i, c.member-count-first.ensures);
+      first = omega (arith, gathered_longer _ _ _ _ _ _ _ _ _ i, c.member_count-first.ensures);
       room = gathered_room _ _ _ _ _ _ _ _ _ _ _ c.requires.ready c.requires.room c.loop-q-test.true i;
     }
 
-pub returns-in-err-add-new : goal.returns-in-err-add-new
-returns-in-err-add-new c =
+pub returns-in_err-add_new : goal.returns-in_err-add_new
+returns-in_err-add_new c =
     let T = c.args.nodes.now in
     let l = c.args.library.now in
     let s = c.args.site in
     let x = scope (contents l) s.class s.parent s.kept in
     let i = c.loop-q.invariant in
     let q = c.loop-q.q in
-    let m = c.in-ok-member.member in
-    let h = carried_ok _ _ _ c.method.result c.around.result m c.around.ensures c.method.ensures c.in-ok-member.was in
+    let m = c.in_ok-member.member in
+    let h = carried_ok _ _ _ c.method.result c.around.result m c.around.ensures c.method.ensures c.in_ok-member.was in
     let d = subst (λ y. MethodIs T y q m) (gathered_scope _ _ _ _ _ _ _ _ _ s.class s.parent s.kept (placed_in l) i) h in
-    let g = c.in-err-add-new.ensures in
-    let o = ap (λ n. lookup called (drop n (contents c.loop-q.library).members) m.name) (sym c.member-count-first.ensures) ∙ g.0.1 in
-    let f = i.bad _ (repeated c.loop-q-test.true c.method-parts-place.ensures.view d o) in
-    let k = ap (λ y. in_member y (broken Methods c.method-parts-place.result.name)) (sym (method_name _ _ _ _ d c.method-parts-place.ensures.view)) ∙ sym g.1 in
+    let g = c.in_err-add_new.ensures in
+    let o = ap (λ n. lookup called (drop n (contents c.loop-q.library).members) m.name) (sym c.member_count-first.ensures) ∙ g.0.1 in
+    let f = i.bad _ (repeated c.loop-q-test.true c.method_parts-place.ensures.view d o) in
+    let k = ap (λ y. in_member y (broken Methods c.method_parts-place.result.name)) (sym (method_name _ _ _ _ d c.method_parts-place.ensures.view)) ∙ sym g.1 in
     record {
-      rules = exit _ _ c.from-residual-in-err-add-new.result _ c.from-residual-in-err-add-new.ensures.1 (subst (BreaksMethods T x c.args.list.end [] c.args.list.first) k f);
+      rules = exit _ _ c.from_residual-in_err-add_new.result _ c.from_residual-in_err-add_new.ensures.1 (subst (BreaksMethods T x c.args.list.end [] c.args.list.first) k f);
       grows = subst (λ w. w ≡ more_members (contents l) (added (contents l) w)) (sym g.2) i.grown;
       few = omega (arith, i.few, c.loop-q-test.true, ap (λ w. length w.members) g.2);
     }
@@ -83,11 +83,11 @@ loop-q-preserved c =
     let x = scope (contents l) s.class s.parent s.kept in
     let i = c.loop-q.invariant in
     let q = c.loop-q.q in
-    let m = c.in-ok-member.member in
-    let h = carried_ok _ _ _ c.method.result c.around.result m c.around.ensures c.method.ensures c.in-ok-member.was in
+    let m = c.in_ok-member.member in
+    let h = carried_ok _ _ _ c.method.result c.around.result m c.around.ensures c.method.ensures c.in_ok-member.was in
     let d = subst (λ y. MethodIs T y q m) (gathered_scope _ _ _ _ _ _ _ _ _ s.class s.parent s.kept (placed_in l) i) h in
-    let g = c.in-ok-add-new.ensures in
-    let o = ap (λ n. lookup called (drop n (contents c.loop-q.library).members) m.name) (sym c.member-count-first.ensures) ∙ g.0 in
+    let g = c.in_ok-add_new.ensures in
+    let o = ap (λ n. lookup called (drop n (contents c.loop-q.library).members) m.name) (sym c.member_count-first.ensures) ∙ g.0 in
     gathered_more _ _ _ _ _ _ _ _ _ q m c.loop-q-test.true g.1 (λ G k. more c.loop-q-test.true d o k) (λ f k. later c.loop-q-test.true d o k) i
 
 pub returns : goal.returns

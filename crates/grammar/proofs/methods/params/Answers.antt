@@ -12,8 +12,8 @@ loop-q-init c = listed_none _ _ _ _ _ c.empty-types.ensures c.requires.few
 pub param-requires : goal.param-requires
 param-requires c = record { formed = c.requires.formed; param = (row_next _ OneParam _ _ _ c.loop-q.invariant.row c.loop-q-test.true).here }
 
-pub returns-in-err-param : goal.returns-in-err-param
-returns-in-err-param c = exit _ _ c.from-residual.result _ c.from-residual.ensures.1 (c.loop-q.invariant.bad _ (here c.loop-q-test.true c.in-err-param.ensures))
+pub returns-in_err-param : goal.returns-in_err-param
+returns-in_err-param c = exit _ _ c.from_residual.result _ c.from_residual.ensures.1 (c.loop-q.invariant.bad _ (here c.loop-q-test.true c.in_err-param.ensures))
 
 pub with-types-requires : goal.with-types-requires
 with-types-requires c = listed_room _ _ _ _ _ _ c.loop-q-test.true c.loop-q.invariant
@@ -24,7 +24,7 @@ bounds-nodes-q c = omega (arith, c.loop-q-test.true, c.loop-q.invariant.row.with
 pub loop-q-preserved : goal.loop-q-preserved
 loop-q-preserved c =
     let i = c.loop-q.invariant in
-    listed_more _ _ _ _ _ _ _ _ c.loop-q-test.true c.in-ok-param.ensures i (c.with-types.ensures i.types i.made)
+    listed_more _ _ _ _ _ _ _ _ c.loop-q-test.true c.in_ok-param.ensures i (c.with-types.ensures i.types i.made)
 
 pub returns : goal.returns
 returns c = let i = c.loop-q.invariant in (i.types, i.made, listed_all _ _ _ _ _ _ c.loop-q-test.false i)

@@ -5,25 +5,25 @@ use Rattle.grammar.specs.PassOne.{Declares, class, no_super, taken}
 use Rattle.grammar.proofs.Options.{some_from, none_from}
 use Rattle.grammar.proofs.pass_one.declare_class.Goals as goal
 
-pub returns-in-default : goal.returns-in-default
-returns-in-default c =
+pub returns-in_default : goal.returns-in_default
+returns-in_default c =
     let cs = (contents c.args.library.now).classes in
-    (no_super c.class-parts-parts.ensures.view (λ j e. c.in-default.ensures j (ap (type_env cs) c.symbol.ensures ∙ e)), refl)
+    (no_super c.class_parts-parts.ensures.view (λ j e. c.in_default.ensures j (ap (type_env cs) c.symbol.ensures ∙ e)), refl)
 
-pub returns-then-is-some : goal.returns-then-is-some
-returns-then-is-some c =
+pub returns-then-is_some : goal.returns-then-is_some
+returns-then-is_some c =
     let cs = (contents c.args.library.now).classes in
     let s = ap (type_env cs) (sym c.symbol.ensures) ∙ c.in-Some.ensures.0 in
-    let t = some_from c.type-named.result (sym c.if-is-some.ensures) in
-    let n = ap (type_env cs) (sym c.symbol-name.ensures) ∙ sym c.type-named.ensures ∙ t.1 in
-    (taken c.class-parts-parts.ensures.view s n, refl)
+    let t = some_from c.type_named.result (sym c.if-is_some.ensures) in
+    let n = ap (type_env cs) (sym c.symbol-name.ensures) ∙ sym c.type_named.ensures ∙ t.1 in
+    (taken c.class_parts-parts.ensures.view s n, refl)
 
 pub returns : goal.returns
 returns c =
     let T = c.args.nodes.now in
     let w = contents c.args.library.now in
     let s = ap (type_env w.classes) (sym c.symbol.ensures) ∙ c.in-Some.ensures.0 in
-    let n = ap (type_env w.classes) (sym c.symbol-name.ensures) ∙ sym c.type-named.ensures ∙ none_from c.type-named.result (sym c.if-is-some.ensures) in
-    let d = class c.class-parts-parts.ensures.view s n in
-    let e = ap (λ x. with_class w x c.in-Some.parent) (sym c.symbol-name.ensures) ∙ sym c.add-class.ensures in
+    let n = ap (type_env w.classes) (sym c.symbol-name.ensures) ∙ sym c.type_named.ensures ∙ none_from c.type_named.result (sym c.if-is_some.ensures) in
+    let d = class c.class_parts-parts.ensures.view s n in
+    let e = ap (λ x. with_class w x c.in-Some.parent) (sym c.symbol-name.ensures) ∙ sym c.add_class.ensures in
     subst (Declares T w c.args.p) e d

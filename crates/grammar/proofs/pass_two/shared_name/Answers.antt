@@ -8,4 +8,4 @@ returns c =
     let s : Some c.in-Some.node ≡ Some (c.args.kept + d.0) = sym c.in-Some.is ∙ d.1 in
     let e : c.in-Some.node ≡ c.args.kept + d.0 = cc in
     let g : c.args.kept + (c.in-Some.node - c.args.kept) ≡ c.in-Some.node = omega arith in
-    shared_name (c.in-Some.node - c.args.kept) (c.in-Some.is ∙ ap Some (sym g)) c.method-parts.ensures.view
+    shared_name (c.in-Some.node - c.args.kept) (c.in-Some.is ∙ ap Some (sym g)) c.method_parts.ensures.view
