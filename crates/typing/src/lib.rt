@@ -1,4 +1,6 @@
 // Pass three of the grammars: initializations, bodies and Main.
+#![tactic(auto)]
+
 pub mod expr;
 pub mod local;
 pub mod settled;

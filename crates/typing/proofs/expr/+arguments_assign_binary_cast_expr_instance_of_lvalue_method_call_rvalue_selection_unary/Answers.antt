@@ -24,15 +24,15 @@ use Rattle.typing.proofs.Logs.{then_log, after_setting, after_ready}
 use Rattle.typing.proofs.Steps.{back}
 use Rattle.typing.proofs.expr.+arguments_assign_binary_cast_expr_instance_of_lvalue_method_call_rvalue_selection_unary.Goals as goal
 
-pub unary-returns-in-err-of : goal.unary-returns-in-err-of
-unary-returns-in-err-of t c =
-    let h = c.in-err-of.ensures in
-    exit _ _ c.from-residual.result _ c.from-residual.ensures.1 (record { breaks = BreaksExpr.unary_operand c.requires.view h.breaks; log = h.log; left = h.left })
+pub unary-returns-in_err-of : goal.unary-returns-in_err-of
+unary-returns-in_err-of t c =
+    let h = c.in_err-of.ensures in
+    exit _ _ c.from_residual.result _ c.from_residual.ensures.1 (record { breaks = BreaksExpr.unary_operand c.requires.view h.breaks; log = h.log; left = h.left })
 
-pub unary-returns-in-default : goal.unary-returns-in-default
-unary-returns-in-default t c =
-    let h = c.in-ok-of.ensures in
-    record { breaks = BreaksExpr.no_unary c.requires.view h.holds c.in-default.ensures.result; log = h.log; left = h.left }
+pub unary-returns-in_default : goal.unary-returns-in_default
+unary-returns-in_default t c =
+    let h = c.in_ok-of.ensures in
+    record { breaks = BreaksExpr.no_unary c.requires.view h.holds c.in_default.ensures.result; log = h.log; left = h.left }
 
 pub unary-returns : goal.unary-returns
 unary-returns t c =
@@ -42,43 +42,43 @@ unary-returns t c =
     let k = c.args.around.class in
     let ls = c.args.locals.now in
     let p = c.args.p in
-    let h = c.in-ok-of.ensures in
+    let h = c.in_ok-of.ensures in
     let r = c.in-Some.result in
-    record { log = h.log ++ typed p r; holds = Expr.unary c.requires.view h.holds c.in-Some.ensures.result; left = then_log n w h.log (typed p r) h.left c.note-type.ensures }
+    record { log = h.log ++ typed p r; holds = Expr.unary c.requires.view h.holds c.in-Some.ensures.result; left = then_log n w h.log (typed p r) h.left c.note_type.ensures }
 
-pub binary-returns-in-err-first : goal.binary-returns-in-err-first
-binary-returns-in-err-first t c =
-    let h = c.in-err-first.ensures in
-    exit _ _ c.from-residual.result _ c.from-residual.ensures.1 (record { breaks = BreaksExpr.binary_left c.requires.view h.breaks; log = h.log; left = h.left })
+pub binary-returns-in_err-first : goal.binary-returns-in_err-first
+binary-returns-in_err-first t c =
+    let h = c.in_err-first.ensures in
+    exit _ _ c.from_residual.result _ c.from_residual.ensures.1 (record { breaks = BreaksExpr.binary_left c.requires.view h.breaks; log = h.log; left = h.left })
 
-pub binary-returns-in-err-second : goal.binary-returns-in-err-second
-binary-returns-in-err-second t c =
+pub binary-returns-in_err-second : goal.binary-returns-in_err-second
+binary-returns-in_err-second t c =
     let T = c.args.nodes.now in
     let w = contents c.args.library.now in
     let n = c.args.around.kept in
     let k = c.args.around.class in
     let ls = c.args.locals.now in
     let p = c.args.p in
-    let g = c.in-ok-first.ensures in
+    let g = c.in_ok-first.ensures in
     let u = contents c.expr.new.library in
-    let h = c.in-err-second.ensures in
-    let b = back n w u g.log k ls (λ x. BreaksExpr T x c.args.right c.in-err-second.field-0.0) g.left h.breaks in
-    exit _ _ c.from-residual-in-err-second.result _ c.from-residual-in-err-second.ensures.1 (record { breaks = BreaksExpr.binary_right c.requires.view g.holds b; log = g.log ++ h.log; left = then_log n w g.log h.log g.left h.left })
+    let h = c.in_err-second.ensures in
+    let b = back n w u g.log k ls (λ x. BreaksExpr T x c.args.right c.in_err-second.field-0.0) g.left h.breaks in
+    exit _ _ c.from_residual-in_err-second.result _ c.from_residual-in_err-second.ensures.1 (record { breaks = BreaksExpr.binary_right c.requires.view g.holds b; log = g.log ++ h.log; left = then_log n w g.log h.log g.left h.left })
 
-pub binary-returns-in-default : goal.binary-returns-in-default
-binary-returns-in-default t c =
+pub binary-returns-in_default : goal.binary-returns-in_default
+binary-returns-in_default t c =
     let T = c.args.nodes.now in
     let w = contents c.args.library.now in
     let n = c.args.around.kept in
     let k = c.args.around.class in
     let ls = c.args.locals.now in
     let p = c.args.p in
-    let g = c.in-ok-first.ensures in
+    let g = c.in_ok-first.ensures in
     let u = contents c.expr.new.library in
-    let h = c.in-ok-second.ensures in
-    let d = back n w u g.log k ls (λ x. Expr T x c.args.right c.in-ok-second.second h.log) g.left h.holds in
+    let h = c.in_ok-second.ensures in
+    let d = back n w u g.log k ls (λ x. Expr T x c.args.right c.in_ok-second.second h.log) g.left h.holds in
     let e = then_log n w g.log h.log g.left h.left in
-    record { breaks = BreaksExpr.no_binary c.requires.view g.holds d c.in-default.ensures.result; log = g.log ++ h.log; left = e }
+    record { breaks = BreaksExpr.no_binary c.requires.view g.holds d c.in_default.ensures.result; log = g.log ++ h.log; left = e }
 
 pub binary-returns : goal.binary-returns
 binary-returns t c =
@@ -88,33 +88,33 @@ binary-returns t c =
     let k = c.args.around.class in
     let ls = c.args.locals.now in
     let p = c.args.p in
-    let g = c.in-ok-first.ensures in
+    let g = c.in_ok-first.ensures in
     let u = contents c.expr.new.library in
-    let h = c.in-ok-second.ensures in
-    let d = back n w u g.log k ls (λ x. Expr T x c.args.right c.in-ok-second.second h.log) g.left h.holds in
+    let h = c.in_ok-second.ensures in
+    let d = back n w u g.log k ls (λ x. Expr T x c.args.right c.in_ok-second.second h.log) g.left h.holds in
     let e = then_log n w g.log h.log g.left h.left in
     let r = c.in-Some.result in
-    record { log = g.log ++ h.log ++ typed p r; holds = Expr.binary c.requires.view g.holds d c.in-Some.ensures.result; left = then_log n w (g.log ++ h.log) (typed p r) e c.note-type.ensures }
+    record { log = g.log ++ h.log ++ typed p r; holds = Expr.binary c.requires.view g.holds d c.in-Some.ensures.result; left = then_log n w (g.log ++ h.log) (typed p r) e c.note_type.ensures }
 
-pub assign-returns-in-err-of : goal.assign-returns-in-err-of
-assign-returns-in-err-of t c =
-    let h = c.in-err-of.ensures in
-    exit _ _ c.from-residual.result _ c.from-residual.ensures.1 (record { breaks = BreaksExpr.assign_left c.requires.view h.breaks; log = h.log; left = h.left })
+pub assign-returns-in_err-of : goal.assign-returns-in_err-of
+assign-returns-in_err-of t c =
+    let h = c.in_err-of.ensures in
+    exit _ _ c.from_residual.result _ c.from_residual.ensures.1 (record { breaks = BreaksExpr.assign_left c.requires.view h.breaks; log = h.log; left = h.left })
 
-pub assign-returns-in-err-rvalue : goal.assign-returns-in-err-rvalue
-assign-returns-in-err-rvalue t c =
+pub assign-returns-in_err-rvalue : goal.assign-returns-in_err-rvalue
+assign-returns-in_err-rvalue t c =
     let T = c.args.nodes.now in
     let w = contents c.args.library.now in
     let n = c.args.around.kept in
     let k = c.args.around.class in
     let ls = c.args.locals.now in
     let p = c.args.p in
-    let g = c.in-ok-of.ensures in
+    let g = c.in_ok-of.ensures in
     let u = contents c.lvalue.new.library in
-    let o = c.in-ok-of.of in
-    let h = c.in-err-rvalue.ensures in
-    let b = back n w u g.log k ls (λ x. BreaksRvalue T x o c.args.value c.in-err-rvalue.field-0.0) g.left h.breaks in
-    exit _ _ c.from-residual-in-err-rvalue.result _ c.from-residual-in-err-rvalue.ensures.1 (record { breaks = BreaksExpr.assign_right c.requires.view g.holds b; log = g.log ++ h.log; left = then_log n w g.log h.log g.left h.left })
+    let o = c.in_ok-of.of in
+    let h = c.in_err-rvalue.ensures in
+    let b = back n w u g.log k ls (λ x. BreaksRvalue T x o c.args.value c.in_err-rvalue.field-0.0) g.left h.breaks in
+    exit _ _ c.from_residual-in_err-rvalue.result _ c.from_residual-in_err-rvalue.ensures.1 (record { breaks = BreaksExpr.assign_right c.requires.view g.holds b; log = g.log ++ h.log; left = then_log n w g.log h.log g.left h.left })
 
 pub assign-returns : goal.assign-returns
 assign-returns t c =
@@ -124,59 +124,59 @@ assign-returns t c =
     let k = c.args.around.class in
     let ls = c.args.locals.now in
     let p = c.args.p in
-    let g = c.in-ok-of.ensures in
+    let g = c.in_ok-of.ensures in
     let u = contents c.lvalue.new.library in
-    let o = c.in-ok-of.of in
-    let h = c.in-ok-rvalue.ensures in
+    let o = c.in_ok-of.of in
+    let h = c.in_ok-rvalue.ensures in
     let d = back n w u g.log k ls (λ x. Rvalue T x o c.args.value h.log) g.left h.holds in
-    record { log = g.log ++ h.log ++ typed p o; holds = Expr.assign c.requires.view g.holds d; left = then_log n w (g.log ++ h.log) (typed p o) (then_log n w g.log h.log g.left h.left) c.note-type.ensures }
+    record { log = g.log ++ h.log ++ typed p o; holds = Expr.assign c.requires.view g.holds d; left = then_log n w (g.log ++ h.log) (typed p o) (then_log n w g.log h.log g.left h.left) c.note_type.ensures }
 
-pub cast-returns-in-err-of : goal.cast-returns-in-err-of
-cast-returns-in-err-of t c =
+pub cast-returns-in_err-of : goal.cast-returns-in_err-of
+cast-returns-in_err-of t c =
     let T = c.args.nodes.now in
     let w = contents c.args.library.now in
     let n = c.args.around.kept in
     let k = c.args.around.class in
     let ls = c.args.locals.now in
     let p = c.args.p in
-    let h = c.in-err-of.ensures in
-    exit _ _ c.from-residual.result _ c.from-residual.ensures.1 (record { breaks = subst (BreaksExpr T (setting w k ls) p) (sym h.1) (BreaksExpr.cast_type c.requires.view h.0); log = []; left = refl })
+    let h = c.in_err-of.ensures in
+    exit _ _ c.from_residual.result _ c.from_residual.ensures.1 (record { breaks = subst (BreaksExpr T (setting w k ls) p) (sym h.1) (BreaksExpr.cast_type c.requires.view h.0); log = []; left = refl })
 
-pub cast-returns-in-err-from : goal.cast-returns-in-err-from
-cast-returns-in-err-from t c =
+pub cast-returns-in_err-from : goal.cast-returns-in_err-from
+cast-returns-in_err-from t c =
     let T = c.args.nodes.now in
     let w = contents c.args.library.now in
     let n = c.args.around.kept in
     let k = c.args.around.class in
     let ls = c.args.locals.now in
     let p = c.args.p in
-    let o = c.in-ok-of.of in
-    let m = c.in-ok-of.ensures in
-    let u = contents c.note-type.new.library in
+    let o = c.in_ok-of.of in
+    let m = c.in_ok-of.ensures in
+    let u = contents c.note_type.new.library in
     let a = typed c.args.to o in
-    let h = c.in-err-from.ensures in
-    let b = back n w u a k ls (λ x. BreaksExpr T x c.args.value c.in-err-from.field-0.0) c.note-type.ensures h.breaks in
-    exit _ _ c.from-residual-in-err-from.result _ c.from-residual-in-err-from.ensures.1 (record { breaks = BreaksExpr.cast_value c.requires.view m b; log = a ++ h.log; left = then_log n w a h.log c.note-type.ensures h.left })
+    let h = c.in_err-from.ensures in
+    let b = back n w u a k ls (λ x. BreaksExpr T x c.args.value c.in_err-from.field-0.0) c.note_type.ensures h.breaks in
+    exit _ _ c.from_residual-in_err-from.result _ c.from_residual-in_err-from.ensures.1 (record { breaks = BreaksExpr.cast_value c.requires.view m b; log = a ++ h.log; left = then_log n w a h.log c.note_type.ensures h.left })
 
-pub cast-is-castable-requires : goal.cast-is-castable-requires
-cast-is-castable-requires t c = record { ordered = subst Ordered (sym c.classes.ensures) (ordered c.expr.new.library) }
+pub cast-is_castable-requires : goal.cast-is_castable-requires
+cast-is_castable-requires t c = record { ordered = subst Ordered (sym c.classes.ensures) (ordered c.expr.new.library) }
 
-pub cast-returns-then-not-is-castable : goal.cast-returns-then-not-is-castable
-cast-returns-then-not-is-castable t c =
+pub cast-returns-then-not-is_castable : goal.cast-returns-then-not-is_castable
+cast-returns-then-not-is_castable t c =
     let T = c.args.nodes.now in
     let w = contents c.args.library.now in
     let n = c.args.around.kept in
     let k = c.args.around.class in
     let ls = c.args.locals.now in
     let p = c.args.p in
-    let o = c.in-ok-of.of in
-    let m = c.in-ok-of.ensures in
-    let u = contents c.note-type.new.library in
+    let o = c.in_ok-of.of in
+    let m = c.in_ok-of.ensures in
+    let u = contents c.note_type.new.library in
     let a = typed c.args.to o in
-    let h = c.in-ok-from.ensures in
-    let f = c.in-ok-from.from in
-    let d = back n w u a k ls (λ x. Expr T x c.args.value f h.log) c.note-type.ensures h.holds in
-    let e = then_log n w a h.log c.note-type.ensures h.left in
+    let h = c.in_ok-from.ensures in
+    let f = c.in_ok-from.from in
+    let d = back n w u a k ls (λ x. Expr T x c.args.value f h.log) c.note_type.ensures h.holds in
+    let e = then_log n w a h.log c.note_type.ensures h.left in
     let cs = c.classes.ensures ∙ ap (λ v. v.classes) e in
     let q : Castable c.classes.result.now f o → ⊥ = search rules in
     record { breaks = BreaksExpr.no_cast c.requires.view m d (λ y. q (subst (λ z. Castable z f o) (sym cs) y)); log = a ++ h.log; left = e }
@@ -189,93 +189,93 @@ cast-returns t c =
     let k = c.args.around.class in
     let ls = c.args.locals.now in
     let p = c.args.p in
-    let o = c.in-ok-of.of in
-    let m = c.in-ok-of.ensures in
-    let u = contents c.note-type.new.library in
+    let o = c.in_ok-of.of in
+    let m = c.in_ok-of.ensures in
+    let u = contents c.note_type.new.library in
     let a = typed c.args.to o in
-    let h = c.in-ok-from.ensures in
-    let f = c.in-ok-from.from in
-    let d = back n w u a k ls (λ x. Expr T x c.args.value f h.log) c.note-type.ensures h.holds in
-    let e = then_log n w a h.log c.note-type.ensures h.left in
+    let h = c.in_ok-from.ensures in
+    let f = c.in_ok-from.from in
+    let d = back n w u a k ls (λ x. Expr T x c.args.value f h.log) c.note_type.ensures h.holds in
+    let e = then_log n w a h.log c.note_type.ensures h.left in
     let cs = c.classes.ensures ∙ ap (λ v. v.classes) e in
     let q : Castable c.classes.result.now f o = search rules in
-    record { log = a ++ h.log ++ typed p o; holds = Expr.cast c.requires.view m d (subst (λ z. Castable z f o) cs q); left = then_log n w (a ++ h.log) (typed p o) e c.note-type-2.ensures }
+    record { log = a ++ h.log ++ typed p o; holds = Expr.cast c.requires.view m d (subst (λ z. Castable z f o) cs q); left = then_log n w (a ++ h.log) (typed p o) e c.note_type-2.ensures }
 
-pub instance-of-returns-in-err-of : goal.instance-of-returns-in-err-of
-instance-of-returns-in-err-of t c =
-    let h = c.in-err-of.ensures in
-    exit _ _ c.from-residual.result _ c.from-residual.ensures.1 (record { breaks = BreaksExpr.instance_value c.requires.view h.breaks; log = h.log; left = h.left })
+pub instance_of-returns-in_err-of : goal.instance_of-returns-in_err-of
+instance_of-returns-in_err-of t c =
+    let h = c.in_err-of.ensures in
+    exit _ _ c.from_residual.result _ c.from_residual.ensures.1 (record { breaks = BreaksExpr.instance_value c.requires.view h.breaks; log = h.log; left = h.left })
 
-pub instance-of-returns-in-err-asked : goal.instance-of-returns-in-err-asked
-instance-of-returns-in-err-asked t c =
+pub instance_of-returns-in_err-asked : goal.instance_of-returns-in_err-asked
+instance_of-returns-in_err-asked t c =
     let T = c.args.nodes.now in
     let w = contents c.args.library.now in
     let n = c.args.around.kept in
     let k = c.args.around.class in
     let ls = c.args.locals.now in
     let p = c.args.p in
-    let g = c.in-ok-of.ensures in
-    let o = c.in-ok-of.of in
+    let g = c.in_ok-of.ensures in
+    let o = c.in_ok-of.of in
     let cs = ap (λ v. v.classes) g.left in
     let b = c.args.class in
-    let h = c.in-err-asked.ensures in
+    let h = c.in_err-asked.ensures in
     let f = BreaksExpr.instance_type c.requires.view g.holds (ap (λ z. type_env z (symbol_at T b)) (sym cs) ∙ h.0) in
-    exit _ _ c.from-residual-in-err-asked.result _ c.from-residual-in-err-asked.ensures.1 (record { breaks = subst (BreaksExpr T (setting w k ls) p) (sym h.1) f; log = g.log; left = g.left })
+    exit _ _ c.from_residual-in_err-asked.result _ c.from_residual-in_err-asked.ensures.1 (record { breaks = subst (BreaksExpr T (setting w k ls) p) (sym h.1) f; log = g.log; left = g.left })
 
-pub instance-of-returns-then-not-allows-instance-of : goal.instance-of-returns-then-not-allows-instance-of
-instance-of-returns-then-not-allows-instance-of t c =
+pub instance_of-returns-then-not-allows_instance_of : goal.instance_of-returns-then-not-allows_instance_of
+instance_of-returns-then-not-allows_instance_of t c =
     let T = c.args.nodes.now in
     let w = contents c.args.library.now in
     let n = c.args.around.kept in
     let k = c.args.around.class in
     let ls = c.args.locals.now in
     let p = c.args.p in
-    let g = c.in-ok-of.ensures in
-    let o = c.in-ok-of.of in
+    let g = c.in_ok-of.ensures in
+    let o = c.in_ok-of.of in
     let cs = ap (λ v. v.classes) g.left in
     let b = c.args.class in
-    let a = c.in-ok-asked.asked in
-    let m = ap (λ z. type_env z (symbol_at T b)) (sym cs) ∙ c.in-ok-asked.ensures in
-    let e = then_log n w g.log (typed b a) g.left c.note-type.ensures in
+    let a = c.in_ok-asked.asked in
+    let m = ap (λ z. type_env z (symbol_at T b)) (sym cs) ∙ c.in_ok-asked.ensures in
+    let e = then_log n w g.log (typed b a) g.left c.note_type.ensures in
     let q : InstanceTyped o a → ⊥ = search rules in
     record { breaks = BreaksExpr.no_instance c.requires.view g.holds m q; log = g.log ++ typed b a; left = e }
 
-pub instance-of-returns : goal.instance-of-returns
-instance-of-returns t c =
+pub instance_of-returns : goal.instance_of-returns
+instance_of-returns t c =
     let T = c.args.nodes.now in
     let w = contents c.args.library.now in
     let n = c.args.around.kept in
     let k = c.args.around.class in
     let ls = c.args.locals.now in
     let p = c.args.p in
-    let g = c.in-ok-of.ensures in
-    let o = c.in-ok-of.of in
+    let g = c.in_ok-of.ensures in
+    let o = c.in_ok-of.of in
     let cs = ap (λ v. v.classes) g.left in
     let b = c.args.class in
-    let a = c.in-ok-asked.asked in
-    let m = ap (λ z. type_env z (symbol_at T b)) (sym cs) ∙ c.in-ok-asked.ensures in
-    let e = then_log n w g.log (typed b a) g.left c.note-type.ensures in
+    let a = c.in_ok-asked.asked in
+    let m = ap (λ z. type_env z (symbol_at T b)) (sym cs) ∙ c.in_ok-asked.ensures in
+    let e = then_log n w g.log (typed b a) g.left c.note_type.ensures in
     let q : InstanceTyped o a = search rules in
-    record { log = g.log ++ typed b a ++ typed p Boolean; holds = Expr.instance_of c.requires.view g.holds m q; left = then_log n w (g.log ++ typed b a) (typed p Boolean) e c.note-type-2.ensures }
+    record { log = g.log ++ typed b a ++ typed p Boolean; holds = Expr.instance_of c.requires.view g.holds m q; left = then_log n w (g.log ++ typed b a) (typed p Boolean) e c.note_type-2.ensures }
 
-pub rvalue-returns-in-err-of : goal.rvalue-returns-in-err-of
-rvalue-returns-in-err-of t c =
-    let h = c.in-err-of.ensures in
-    exit _ _ c.from-residual.result _ c.from-residual.ensures.1 (record { breaks = BreaksRvalue.value h.breaks; log = h.log; left = h.left })
+pub rvalue-returns-in_err-of : goal.rvalue-returns-in_err-of
+rvalue-returns-in_err-of t c =
+    let h = c.in_err-of.ensures in
+    exit _ _ c.from_residual.result _ c.from_residual.ensures.1 (record { breaks = BreaksRvalue.value h.breaks; log = h.log; left = h.left })
 
-pub rvalue-is-assignable-requires : goal.rvalue-is-assignable-requires
-rvalue-is-assignable-requires t c = record { ordered = subst Ordered (sym c.classes.ensures) (ordered c.expr.new.library) }
+pub rvalue-is_assignable-requires : goal.rvalue-is_assignable-requires
+rvalue-is_assignable-requires t c = record { ordered = subst Ordered (sym c.classes.ensures) (ordered c.expr.new.library) }
 
-pub rvalue-returns-then-not-is-assignable : goal.rvalue-returns-then-not-is-assignable
-rvalue-returns-then-not-is-assignable t c =
+pub rvalue-returns-then-not-is_assignable : goal.rvalue-returns-then-not-is_assignable
+rvalue-returns-then-not-is_assignable t c =
     let T = c.args.nodes.now in
     let w = contents c.args.library.now in
     let n = c.args.around.kept in
     let k = c.args.around.class in
     let ls = c.args.locals.now in
     let p = c.args.p in
-    let h = c.in-ok-of.ensures in
-    let o = c.in-ok-of.of in
+    let h = c.in_ok-of.ensures in
+    let o = c.in_ok-of.of in
     let cs = c.classes.ensures ∙ ap (λ v. v.classes) h.left in
     let q : Assignable c.classes.result.now c.args.want o → ⊥ = search rules in
     record { breaks = BreaksRvalue.no_value h.holds (λ y. q (subst (λ z. Assignable z c.args.want o) (sym cs) y)); log = h.log; left = h.left }
@@ -288,8 +288,8 @@ rvalue-returns t c =
     let k = c.args.around.class in
     let ls = c.args.locals.now in
     let p = c.args.p in
-    let h = c.in-ok-of.ensures in
-    let o = c.in-ok-of.of in
+    let h = c.in_ok-of.ensures in
+    let o = c.in_ok-of.of in
     let cs = c.classes.ensures ∙ ap (λ v. v.classes) h.left in
     let q : Assignable c.classes.result.now c.args.want o = search rules in
     record { log = h.log; holds = Rvalue.value h.holds (subst (λ z. Assignable z c.args.want o) cs q); left = h.left }
@@ -301,23 +301,23 @@ lvalue-unreachable-requires t c =
     let b = kind_between Target (node_at T p) c.requires.target.admitted in
     let e = c.expression.ensures.view in
     elim (cases_eq (node_at T p).kind 47) [
-      | inl i ↦ let v = seen T p 47 i in let r : c.expression.result ≡ Selection (p + 1) (past T (end_of T p) (p + 1)) = cc in c.in-default.not-Selection _ _ r
-      | inr o ↦ let v = seen T p 48 (omega (arith, b.0, b.1, o)) in let r : c.expression.result ≡ Identifier (node_at T p).word = cc in c.in-default.not-Identifier _ r
+      | inl i ↦ let v = seen T p 47 i in let r : c.expression.result ≡ Selection (p + 1) (past T (end_of T p) (p + 1)) = cc in c.in_default.not-Selection _ _ r
+      | inr o ↦ let v = seen T p 48 (omega (arith, b.0, b.1, o)) in let r : c.expression.result ≡ Identifier (node_at T p).word = cc in c.in_default.not-Identifier _ r
     ]
 
-pub method-call-arguments-requires : goal.method-call-arguments-requires
-method-call-arguments-requires t c =
+pub method_call-arguments-requires : goal.method_call-arguments-requires
+method_call-arguments-requires t c =
     let T = c.args.nodes.now in
     let w = contents c.args.library.now in
     let n = c.args.around.kept in
     let k = c.args.around.class in
     let ls = c.args.locals.now in
     let p = c.args.p in
-    let h = c.in-ok-class.ensures in
+    let h = c.in_ok-class.ensures in
     let j = c.in-Class.class in
     let u = contents c.expr.new.library in
     let d = subst (λ y. Expr T (setting w k ls) c.args.receiver y h.log) c.in-Class.is h.holds in
-    let y = sym (ap (λ z. z.members j (symbol_at T c.args.method)) (after_setting n w h.log k ls h.left)) ∙ ap (environment u j) (sym c.symbol.ensures) ∙ sym c.member-named.ensures in
+    let y = sym (ap (λ z. z.members j (symbol_at T c.args.method)) (after_setting n w h.log k ls h.left)) ∙ ap (environment u j) (sym c.symbol.ensures) ∙ sym c.member_named.ensures in
     let f = c.in-Some.member.definition in
     let b = defined c.args.method f in
     let e = then_log n w h.log b h.left c.note.ensures in
@@ -325,8 +325,8 @@ method-call-arguments-requires t c =
     let r = c.elements.ensures.holds Expressions c.requires.args.is in
     (omega (arith, c.decreases, c.elements.ensures.first, c.elements.ensures.end, c.requires.args.smaller), (after_ready n w (h.log ++ b) T k e c.requires.ready, (r.0, r.2)))
 
-pub selection-may-select-requires : goal.selection-may-select-requires
-selection-may-select-requires t c =
+pub selection-may_select-requires : goal.selection-may_select-requires
+selection-may_select-requires t c =
     subst Ordered (sym c.classes.ensures) (ordered c.note.new.self)
 
 pub arguments-rvalue-requires : goal.arguments-rvalue-requires
@@ -386,8 +386,8 @@ arguments-returns-then-i-count t c =
     let l = types_length c.args.types a in
     passed_extra T _ _ _ _ _ _ _ v _ _ c.loop-q-test.true (omega (arith, l, c.min-count.ensures, c.if-i-count.true)) i
 
-pub arguments-returns-in-err-rvalue : goal.arguments-returns-in-err-rvalue
-arguments-returns-in-err-rvalue t c =
+pub arguments-returns-in_err-rvalue : goal.arguments-returns-in_err-rvalue
+arguments-returns-in_err-rvalue t c =
     let T = c.args.nodes.now in
     let w = contents c.args.library.now in
     let n = c.args.around.kept in
@@ -398,10 +398,10 @@ arguments-returns-in-err-rvalue t c =
     let v = contents c.loop-q.library in
     let a : length c.args.types.types ≡ 8 = search rules in
     let l = types_length c.args.types a in
-    let h = c.in-err-rvalue.ensures in
+    let h = c.in_err-rvalue.ensures in
     let t = get_or c.args.types.types c.loop-q.i Void in
-    let b = back n w v i.log k ls (λ x. BreaksRvalue T x t c.loop-q.q c.in-err-rvalue.field-0.0) i.left h.breaks in
-    exit _ _ c.from-residual.result _ c.from-residual.ensures.1
+    let b = back n w v i.log k ls (λ x. BreaksRvalue T x t c.loop-q.q c.in_err-rvalue.field-0.0) i.left h.breaks in
+    exit _ _ c.from_residual.result _ c.from_residual.ensures.1
     (passed_broken T _ _ _ _ _ _ _ v _ _ _ _ c.loop-q-test.true (omega (arith, l, c.min-count.ensures, c.if-i-count.false)) (record { breaks = b; log = h.log; left = h.left }) i)
 
 pub arguments-loop-q-preserved : goal.arguments-loop-q-preserved
@@ -416,7 +416,7 @@ arguments-loop-q-preserved t c =
     let v = contents c.loop-q.library in
     let a : length c.args.types.types ≡ 8 = search rules in
     let l = types_length c.args.types a in
-    let h = c.in-ok-rvalue.ensures in
+    let h = c.in_ok-rvalue.ensures in
     let t = get_or c.args.types.types c.loop-q.i Void in
     let d = back n w v i.log k ls (λ x. Rvalue T x t c.loop-q.q h.log) i.left h.holds in
     passed_more T _ _ _ _ _ _ _ v _ _ _ h.log c.loop-q-test.true (omega (arith, l, c.min-count.ensures, c.if-i-count.false)) d h.left i
@@ -457,143 +457,143 @@ pub expr-returns-in-Identifier : goal.expr-returns-in-Identifier
 expr-returns-in-Identifier t c =
     MatchResult-weaker c.name.result c.name.ensures (λ u h. record { log = h.log; holds = Expr.lvalue h.holds; left = h.left }) (λ f h. record { breaks = BreaksExpr.lvalue h.breaks; log = h.log; left = h.left })
 
-pub method-call-returns-in-err-class : goal.method-call-returns-in-err-class
-method-call-returns-in-err-class t c =
-    let h = c.in-err-class.ensures in
-    exit _ _ c.from-residual.result _ c.from-residual.ensures.1 (record { breaks = BreaksExpr.receiver c.requires.view h.breaks; log = h.log; left = h.left })
+pub method_call-returns-in_err-class : goal.method_call-returns-in_err-class
+method_call-returns-in_err-class t c =
+    let h = c.in_err-class.ensures in
+    exit _ _ c.from_residual.result _ c.from_residual.ensures.1 (record { breaks = BreaksExpr.receiver c.requires.view h.breaks; log = h.log; left = h.left })
 
-pub method-call-returns-in-default : goal.method-call-returns-in-default
-method-call-returns-in-default t c =
-    let h = c.in-ok-class.ensures in
-    record { breaks = BreaksExpr.no_receiver c.requires.view h.holds (no_class _ c.in-default.not-Class); log = h.log; left = h.left }
+pub method_call-returns-in_default : goal.method_call-returns-in_default
+method_call-returns-in_default t c =
+    let h = c.in_ok-class.ensures in
+    record { breaks = BreaksExpr.no_receiver c.requires.view h.holds (no_class _ c.in_default.not-Class); log = h.log; left = h.left }
 
-pub method-call-returns-in-default-member-named : goal.method-call-returns-in-default-member-named
-method-call-returns-in-default-member-named t c =
+pub method_call-returns-in_default-member_named : goal.method_call-returns-in_default-member_named
+method_call-returns-in_default-member_named t c =
     let T = c.args.nodes.now in
     let w = contents c.args.library.now in
     let n = c.args.around.kept in
     let k = c.args.around.class in
     let ls = c.args.locals.now in
     let p = c.args.p in
-    let h = c.in-ok-class.ensures in
+    let h = c.in_ok-class.ensures in
     let j = c.in-Class.class in
     let u = contents c.expr.new.library in
     let d = subst (λ y. Expr T (setting w k ls) c.args.receiver y h.log) c.in-Class.is h.holds in
-    let y = sym (ap (λ z. z.members j (symbol_at T c.args.method)) (after_setting n w h.log k ls h.left)) ∙ ap (environment u j) (sym c.symbol.ensures) ∙ sym c.member-named.ensures in
-    record { breaks = BreaksExpr.no_method c.requires.view d (y ∙ c.in-default-member-named.is); log = h.log; left = h.left }
+    let y = sym (ap (λ z. z.members j (symbol_at T c.args.method)) (after_setting n w h.log k ls h.left)) ∙ ap (environment u j) (sym c.symbol.ensures) ∙ sym c.member_named.ensures in
+    record { breaks = BreaksExpr.no_method c.requires.view d (y ∙ c.in_default-member_named.is); log = h.log; left = h.left }
 
-pub method-call-returns-in-default-nature : goal.method-call-returns-in-default-nature
-method-call-returns-in-default-nature t c =
+pub method_call-returns-in_default-nature : goal.method_call-returns-in_default-nature
+method_call-returns-in_default-nature t c =
     let T = c.args.nodes.now in
     let w = contents c.args.library.now in
     let n = c.args.around.kept in
     let k = c.args.around.class in
     let ls = c.args.locals.now in
     let p = c.args.p in
-    let h = c.in-ok-class.ensures in
+    let h = c.in_ok-class.ensures in
     let j = c.in-Class.class in
     let u = contents c.expr.new.library in
     let d = subst (λ y. Expr T (setting w k ls) c.args.receiver y h.log) c.in-Class.is h.holds in
-    let y = sym (ap (λ z. z.members j (symbol_at T c.args.method)) (after_setting n w h.log k ls h.left)) ∙ ap (environment u j) (sym c.symbol.ensures) ∙ sym c.member-named.ensures in
-    record { breaks = BreaksExpr.other_method c.requires.view d (y ∙ c.in-Some.is) (no_method _ c.in-default-nature.not-Method); log = h.log; left = h.left }
+    let y = sym (ap (λ z. z.members j (symbol_at T c.args.method)) (after_setting n w h.log k ls h.left)) ∙ ap (environment u j) (sym c.symbol.ensures) ∙ sym c.member_named.ensures in
+    record { breaks = BreaksExpr.other_method c.requires.view d (y ∙ c.in-Some.is) (no_method _ c.in_default-nature.not-Method); log = h.log; left = h.left }
 
-pub method-call-returns-in-err-arguments : goal.method-call-returns-in-err-arguments
-method-call-returns-in-err-arguments t c =
+pub method_call-returns-in_err-arguments : goal.method_call-returns-in_err-arguments
+method_call-returns-in_err-arguments t c =
     let T = c.args.nodes.now in
     let w = contents c.args.library.now in
     let n = c.args.around.kept in
     let k = c.args.around.class in
     let ls = c.args.locals.now in
     let p = c.args.p in
-    let h = c.in-ok-class.ensures in
+    let h = c.in_ok-class.ensures in
     let j = c.in-Class.class in
     let u = contents c.expr.new.library in
     let d = subst (λ y. Expr T (setting w k ls) c.args.receiver y h.log) c.in-Class.is h.holds in
-    let y = sym (ap (λ z. z.members j (symbol_at T c.args.method)) (after_setting n w h.log k ls h.left)) ∙ ap (environment u j) (sym c.symbol.ensures) ∙ sym c.member-named.ensures in
+    let y = sym (ap (λ z. z.members j (symbol_at T c.args.method)) (after_setting n w h.log k ls h.left)) ∙ ap (environment u j) (sym c.symbol.ensures) ∙ sym c.member_named.ensures in
     let f = c.in-Some.member.definition in
     let b = defined c.args.method f in
     let e = then_log n w h.log b h.left c.note.ensures in
     let o = contents c.note.new.self in
-    let g = c.in-err-arguments.ensures in
-    let z = back n w o (h.log ++ b) k ls (λ x. BreaksArgs T x p c.elements.result.end (types_of c.in-Method.types) c.elements.result.first c.in-err-arguments.field-0.0) e g.breaks in
-    exit _ _ c.from-residual-in-err-arguments.result _ c.from-residual-in-err-arguments.ensures.1
+    let g = c.in_err-arguments.ensures in
+    let z = back n w o (h.log ++ b) k ls (λ x. BreaksArgs T x p c.elements.result.end (types_of c.in-Method.types) c.elements.result.first c.in_err-arguments.field-0.0) e g.breaks in
+    exit _ _ c.from_residual-in_err-arguments.result _ c.from_residual-in_err-arguments.ensures.1
     (record { breaks = BreaksExpr.arguments c.requires.view d (y ∙ c.in-Some.is) c.in-Method.is c.elements.ensures.view z; log = h.log ++ b ++ g.log; left = then_log n w (h.log ++ b) g.log e g.left })
 
-pub method-call-returns : goal.method-call-returns
-method-call-returns t c =
+pub method_call-returns : goal.method_call-returns
+method_call-returns t c =
     let T = c.args.nodes.now in
     let w = contents c.args.library.now in
     let n = c.args.around.kept in
     let k = c.args.around.class in
     let ls = c.args.locals.now in
     let p = c.args.p in
-    let h = c.in-ok-class.ensures in
+    let h = c.in_ok-class.ensures in
     let j = c.in-Class.class in
     let u = contents c.expr.new.library in
     let d = subst (λ y. Expr T (setting w k ls) c.args.receiver y h.log) c.in-Class.is h.holds in
-    let y = sym (ap (λ z. z.members j (symbol_at T c.args.method)) (after_setting n w h.log k ls h.left)) ∙ ap (environment u j) (sym c.symbol.ensures) ∙ sym c.member-named.ensures in
+    let y = sym (ap (λ z. z.members j (symbol_at T c.args.method)) (after_setting n w h.log k ls h.left)) ∙ ap (environment u j) (sym c.symbol.ensures) ∙ sym c.member_named.ensures in
     let f = c.in-Some.member.definition in
     let b = defined c.args.method f in
     let e = then_log n w h.log b h.left c.note.ensures in
     let o = contents c.note.new.self in
-    let g = c.in-ok-arguments.ensures in
+    let g = c.in_ok-arguments.ensures in
     let z = back n w o (h.log ++ b) k ls (λ x. Args T x c.elements.result.end (types_of c.in-Method.types) c.elements.result.first g.log) e g.holds in
-    record { log = h.log ++ b ++ g.log ++ typed p f.of; holds = Expr.method_call c.requires.view d (y ∙ c.in-Some.is) c.in-Method.is c.elements.ensures.view z; left = then_log n w (h.log ++ b ++ g.log) (typed p f.of) (then_log n w (h.log ++ b) g.log e g.left) c.note-type.ensures }
+    record { log = h.log ++ b ++ g.log ++ typed p f.of; holds = Expr.method_call c.requires.view d (y ∙ c.in-Some.is) c.in-Method.is c.elements.ensures.view z; left = then_log n w (h.log ++ b ++ g.log) (typed p f.of) (then_log n w (h.log ++ b) g.log e g.left) c.note_type.ensures }
 
-pub selection-returns-in-err-class : goal.selection-returns-in-err-class
-selection-returns-in-err-class t c =
-    let h = c.in-err-class.ensures in
-    exit _ _ c.from-residual.result _ c.from-residual.ensures.1 (record { breaks = BreaksLvalue.object c.requires.view h.breaks; log = h.log; left = h.left })
+pub selection-returns-in_err-class : goal.selection-returns-in_err-class
+selection-returns-in_err-class t c =
+    let h = c.in_err-class.ensures in
+    exit _ _ c.from_residual.result _ c.from_residual.ensures.1 (record { breaks = BreaksLvalue.object c.requires.view h.breaks; log = h.log; left = h.left })
 
-pub selection-returns-in-default : goal.selection-returns-in-default
-selection-returns-in-default t c =
-    let h = c.in-ok-class.ensures in
-    record { breaks = BreaksLvalue.no_object c.requires.view h.holds (no_class _ c.in-default.not-Class); log = h.log; left = h.left }
+pub selection-returns-in_default : goal.selection-returns-in_default
+selection-returns-in_default t c =
+    let h = c.in_ok-class.ensures in
+    record { breaks = BreaksLvalue.no_object c.requires.view h.holds (no_class _ c.in_default.not-Class); log = h.log; left = h.left }
 
-pub selection-returns-in-default-member-named : goal.selection-returns-in-default-member-named
-selection-returns-in-default-member-named t c =
+pub selection-returns-in_default-member_named : goal.selection-returns-in_default-member_named
+selection-returns-in_default-member_named t c =
     let T = c.args.nodes.now in
     let w = contents c.args.library.now in
     let n = c.args.around.kept in
     let k = c.args.around.class in
     let ls = c.args.locals.now in
     let p = c.args.p in
-    let h = c.in-ok-class.ensures in
+    let h = c.in_ok-class.ensures in
     let j = c.in-Class.class in
     let u = contents c.expr.new.library in
     let d = subst (λ y. Expr T (setting w k ls) c.args.object y h.log) c.in-Class.is h.holds in
-    let y = sym (ap (λ z. z.members j (symbol_at T c.args.field)) (after_setting n w h.log k ls h.left)) ∙ ap (environment u j) (sym c.symbol.ensures) ∙ sym c.member-named.ensures in
-    record { breaks = BreaksLvalue.no_field c.requires.view d (y ∙ c.in-default-member-named.is); log = h.log; left = h.left }
+    let y = sym (ap (λ z. z.members j (symbol_at T c.args.field)) (after_setting n w h.log k ls h.left)) ∙ ap (environment u j) (sym c.symbol.ensures) ∙ sym c.member_named.ensures in
+    record { breaks = BreaksLvalue.no_field c.requires.view d (y ∙ c.in_default-member_named.is); log = h.log; left = h.left }
 
-pub selection-returns-then-not-is-field : goal.selection-returns-then-not-is-field
-selection-returns-then-not-is-field t c =
+pub selection-returns-then-not-is_field : goal.selection-returns-then-not-is_field
+selection-returns-then-not-is_field t c =
     let T = c.args.nodes.now in
     let w = contents c.args.library.now in
     let n = c.args.around.kept in
     let k = c.args.around.class in
     let ls = c.args.locals.now in
     let p = c.args.p in
-    let h = c.in-ok-class.ensures in
+    let h = c.in_ok-class.ensures in
     let j = c.in-Class.class in
     let u = contents c.expr.new.library in
     let d = subst (λ y. Expr T (setting w k ls) c.args.object y h.log) c.in-Class.is h.holds in
-    let y = sym (ap (λ z. z.members j (symbol_at T c.args.field)) (after_setting n w h.log k ls h.left)) ∙ ap (environment u j) (sym c.symbol.ensures) ∙ sym c.member-named.ensures in
+    let y = sym (ap (λ z. z.members j (symbol_at T c.args.field)) (after_setting n w h.log k ls h.left)) ∙ ap (environment u j) (sym c.symbol.ensures) ∙ sym c.member_named.ensures in
     let q : IsField c.in-Some.member.definition.nature → ⊥ = search rules in
     record { breaks = BreaksLvalue.other_field c.requires.view d (y ∙ c.in-Some.is) q; log = h.log; left = h.left }
 
-pub selection-returns-then-not-may-select : goal.selection-returns-then-not-may-select
-selection-returns-then-not-may-select t c =
+pub selection-returns-then-not-may_select : goal.selection-returns-then-not-may_select
+selection-returns-then-not-may_select t c =
     let T = c.args.nodes.now in
     let w = contents c.args.library.now in
     let n = c.args.around.kept in
     let k = c.args.around.class in
     let ls = c.args.locals.now in
     let p = c.args.p in
-    let h = c.in-ok-class.ensures in
+    let h = c.in_ok-class.ensures in
     let j = c.in-Class.class in
     let u = contents c.expr.new.library in
     let d = subst (λ y. Expr T (setting w k ls) c.args.object y h.log) c.in-Class.is h.holds in
-    let y = sym (ap (λ z. z.members j (symbol_at T c.args.field)) (after_setting n w h.log k ls h.left)) ∙ ap (environment u j) (sym c.symbol.ensures) ∙ sym c.member-named.ensures in
+    let y = sym (ap (λ z. z.members j (symbol_at T c.args.field)) (after_setting n w h.log k ls h.left)) ∙ ap (environment u j) (sym c.symbol.ensures) ∙ sym c.member_named.ensures in
     let f = c.in-Some.member.definition in
     let b = defined c.args.field f in
     let i : IsField f.nature = search rules in
@@ -610,18 +610,18 @@ selection-returns t c =
     let k = c.args.around.class in
     let ls = c.args.locals.now in
     let p = c.args.p in
-    let h = c.in-ok-class.ensures in
+    let h = c.in_ok-class.ensures in
     let j = c.in-Class.class in
     let u = contents c.expr.new.library in
     let d = subst (λ y. Expr T (setting w k ls) c.args.object y h.log) c.in-Class.is h.holds in
-    let y = sym (ap (λ z. z.members j (symbol_at T c.args.field)) (after_setting n w h.log k ls h.left)) ∙ ap (environment u j) (sym c.symbol.ensures) ∙ sym c.member-named.ensures in
+    let y = sym (ap (λ z. z.members j (symbol_at T c.args.field)) (after_setting n w h.log k ls h.left)) ∙ ap (environment u j) (sym c.symbol.ensures) ∙ sym c.member_named.ensures in
     let f = c.in-Some.member.definition in
     let b = defined c.args.field f in
     let i : IsField f.nature = search rules in
     let e = then_log n w h.log b h.left c.note.ensures in
     let cs = c.classes.ensures ∙ ap (λ v. v.classes) e in
     let q : Selects c.classes.result.now k j f.nature = search rules in
-    record { log = h.log ++ b ++ typed p f.of; holds = Lvalue.selection c.requires.view d (y ∙ c.in-Some.is) (subst (λ r. Selects r k j f.nature) cs q); left = then_log n w (h.log ++ b) (typed p f.of) e c.note-type.ensures }
+    record { log = h.log ++ b ++ typed p f.of; holds = Lvalue.selection c.requires.view d (y ∙ c.in-Some.is) (subst (λ r. Selects r k j f.nature) cs q); left = then_log n w (h.log ++ b) (typed p f.of) e c.note_type.ensures }
 
 pub arguments-loop-q-init : goal.arguments-loop-q-init
 arguments-loop-q-init t c = passed_none _ _ _ _ _ _ _ _ c.requires.row

@@ -26,14 +26,14 @@ decreases-cast l = 8 * (node_at l.nodes.now l.p).size + 1
 abbrev pub decreases-expr : goal.decreases-expr
 decreases-expr l = 8 * (node_at l.nodes.now l.p).size + 2
 
-abbrev pub decreases-instance-of : goal.decreases-instance-of
-decreases-instance-of l = 8 * (node_at l.nodes.now l.p).size + 1
+abbrev pub decreases-instance_of : goal.decreases-instance_of
+decreases-instance_of l = 8 * (node_at l.nodes.now l.p).size + 1
 
 abbrev pub decreases-lvalue : goal.decreases-lvalue
 decreases-lvalue l = 8 * (node_at l.nodes.now l.p).size + 2
 
-abbrev pub decreases-method-call : goal.decreases-method-call
-decreases-method-call l = 8 * (node_at l.nodes.now l.p).size + 1
+abbrev pub decreases-method_call : goal.decreases-method_call
+decreases-method_call l = 8 * (node_at l.nodes.now l.p).size + 1
 
 abbrev pub decreases-rvalue : goal.decreases-rvalue
 decreases-rvalue l = 8 * (node_at l.nodes.now l.p).size + 3

@@ -3,11 +3,11 @@ use Rattle.typing.specs.Expressions.{Variable, name, defined}
 use Rattle.typing.specs.Expressions.BreaksLvalue.{no_name, no_variable}
 use Rattle.typing.proofs.expr.name.Goals as goal
 
-pub returns-in-default : goal.returns-in-default
-returns-in-default c = record { breaks = no_name c.requires.view (sym c.in-default.ensures); log = []; left = refl }
+pub returns-in_default : goal.returns-in_default
+returns-in_default c = record { breaks = no_name c.requires.view (sym c.in_default.ensures); log = []; left = refl }
 
-pub returns-then-not-is-variable : goal.returns-then-not-is-variable
-returns-then-not-is-variable c =
+pub returns-then-not-is_variable : goal.returns-then-not-is_variable
+returns-then-not-is_variable c =
     let n : Variable c.in-Some.found.nature → ⊥ = search rules in
     record { breaks = no_variable c.requires.view (sym c.in-Some.ensures) n; log = []; left = refl }
 

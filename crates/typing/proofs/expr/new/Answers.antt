@@ -8,23 +8,23 @@ use Rattle.typing.proofs.ClassTypes.{a_class, no_class}
 use Rattle.typing.proofs.Logs.{then_log}
 use Rattle.typing.proofs.expr.new.Goals as goal
 
-pub returns-in-err-of : goal.returns-in-err-of
-returns-in-err-of c =
-    let h = c.in-err-of.ensures in
+pub returns-in_err-of : goal.returns-in_err-of
+returns-in_err-of c =
+    let h = c.in_err-of.ensures in
     let x = setting (contents c.args.library.now) c.args.around.class c.args.locals.now in
-    exit _ _ c.from-residual.result _ c.from-residual.ensures.1
+    exit _ _ c.from_residual.result _ c.from_residual.ensures.1
     (record { breaks = subst (BreaksExpr c.args.nodes.now x c.args.p) (sym h.1) (new_type c.requires.view h.0); log = []; left = refl })
 
-pub returns-in-default : goal.returns-in-default
-returns-in-default c =
-    let t = c.in-ok-of.of in
-    record { breaks = no_new c.requires.view c.in-ok-of.ensures (no_class t c.in-default.not-Class); log = typed c.args.class t; left = c.note-type.ensures }
+pub returns-in_default : goal.returns-in_default
+returns-in_default c =
+    let t = c.in_ok-of.of in
+    record { breaks = no_new c.requires.view c.in_ok-of.ensures (no_class t c.in_default.not-Class); log = typed c.args.class t; left = c.note_type.ensures }
 
 pub returns : goal.returns
 returns c =
-    let t = c.in-ok-of.of in
+    let t = c.in_ok-of.of in
     record {
       log = typed c.args.class t ++ typed c.args.p t;
-      holds = new c.requires.view c.in-ok-of.ensures (a_class t _ c.in-Class.is);
-      left = then_log _ _ (typed c.args.class t) (typed c.args.p t) c.note-type.ensures c.note-type-2.ensures;
+      holds = new c.requires.view c.in_ok-of.ensures (a_class t _ c.in-Class.is);
+      left = then_log _ _ (typed c.args.class t) (typed c.args.p t) c.note_type.ensures c.note_type-2.ensures;
     }
