@@ -1,6 +1,6 @@
 -- The fields and the methods of a class, one behind the other.
 use Rattle.std.proofs.Common.{◌≡◌, ℕ, ◌-◌, List, [], ◌∷◌, ◌++◌, length, Some, None, Option, sym, refl, ◌∙◌, subst, arith}
-use Rattle.std.specs.List.{between, AllByRecursion as All}
+use Rattle.std.specs.List.{between, AllByRecursion}
 use Rattle.std.proofs.ByRecursion.{All-push}
 use Rattle.std.proofs.lemmas.List.{append_assoc, drop_at, take_at, length-append}
 use Rattle.std.proofs.lemmas.Slice.{between_to_end}
@@ -25,7 +25,7 @@ pub last_part : {X : Type 0} (xs zs : List X) (i j : ℕ) → i ≡ length xs �
 last_part xs zs i j a b = between_to_end (xs ++ zs) i j (omega arith) ∙ drop_at xs zs i (sym a)
 
 -- what holds of every entry holds of the first that an environment defines
-pub first_all : {E : Type 0} (P : Member → Type 0) (xs : List Member) (e : Env E) (d : Member) → All P xs → first_in called xs e ≡ Some d → P d
+pub first_all : {E : Type 0} (P : Member → Type 0) (xs : List Member) (e : Env E) (d : Member) → AllByRecursion P xs → first_in called xs e ≡ Some d → P d
 first_all P [] e d a h = absurd (let z : ◌≡◌ {A = ℕ} 0 1 = cc in omega arith)
 first_all P (x ∷ xs) e d a h = by (e (called x)) refl (λ k. first_all P xs e d a.1 k)
   where
@@ -37,7 +37,7 @@ method_at : {T : List Node} {x : Scope} {q : ℕ} {m : Member} → MethodIs T x 
 method_at {q = q} (method v t es ps o) i = (q, refl, i)
 
 -- the methods of a list are declared in the batch
-pub methods_placed : {T : List Node} {x : Scope} {e q : ℕ} {M N : List Member} (n : ℕ) → Row T OneMethod n q e → MethodsAre T x e M q N → All (DeclaredAt T x.kept) M → All (DeclaredAt T x.kept) N
+pub methods_placed : {T : List Node} {x : Scope} {e q : ℕ} {M N : List Member} (n : ℕ) → Row T OneMethod n q e → MethodsAre T x e M q N → AllByRecursion (DeclaredAt T x.kept) M → AllByRecursion (DeclaredAt T x.kept) N
 methods_placed n r none a = a
 methods_placed {T} {x} {e} n r (more {M = M} {q = q} {m = m} h d l z) a =
     let k = row_next T OneMethod e n q r h in

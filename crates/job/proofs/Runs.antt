@@ -1,6 +1,6 @@
 -- The first word of a text, by the runs of spaces and of other bytes in its front.
 use Rattle.std.proofs.Common.{◌≡◌, ℕ, zero, suc, ◌+◌, ◌-◌, ◌<◌, Bool, true, false, not, eqb, List, [], ◌∷◌, ◌++◌, length, get_or, take, drop, sym, refl, ap, ◌∙◌, subst, ⊎_elim, one-add, arith}
-use Rattle.std.specs.List.{prefix_len, AllByRecursion as All}
+use Rattle.std.specs.List.{prefix_len, AllByRecursion}
 use Rattle.std.proofs.lemmas.List.{append-nil, append_assoc, length-take-le, length-drop, take-append-drop, nil_from_length}
 use Rattle.std.proofs.lemmas.List.Sums.{prefix_len-le-length}
 use Rattle.std.proofs.lemmas.Bool.{cases_Bool, cases_lt, eqb-true, eqb-false, not-false, not-true, cond-true, cond-false, not_from_true, not_from_false}
@@ -80,12 +80,12 @@ first_word s t w r e h front back =
     skip_spaces s ∙ ap words_of (sym e) ∙ run [] t ∙ sym (λ i. ended (front i) ++ words_of (back i)) ∙ ap (λ v. v ++ words_of r) some
 
 module _ (p : ℕ → Bool) where
-  run_all : (P : ℕ → Type 0) → ((b : ℕ) → p b ≡ true → P b) → (s : List ℕ) → All P (take (prefix_len p s) s)
+  run_all : (P : ℕ → Type 0) → ((b : ℕ) → p b ≡ true → P b) → (s : List ℕ) → AllByRecursion P (take (prefix_len p s) s)
   run_all P each [] = tt
   run_all P each (b ∷ s) =
       ⊎_elim
-      (λ e. subst (All P) (sym (ap (λ n. take n (b ∷ s)) (cond-true (p b) (1 + prefix_len p s) 0 e) ∙ take_one b s (prefix_len p s))) (each b e, run_all P each s))
-      (λ e. subst (All P) (sym (ap (λ n. take n (b ∷ s)) (cond-false (p b) (1 + prefix_len p s) 0 e))) tt)
+      (λ e. subst (AllByRecursion P) (sym (ap (λ n. take n (b ∷ s)) (cond-true (p b) (1 + prefix_len p s) 0 e) ∙ take_one b s (prefix_len p s))) (each b e, run_all P each s))
+      (λ e. subst (AllByRecursion P) (sym (ap (λ n. take n (b ∷ s)) (cond-false (p b) (1 + prefix_len p s) 0 e))) tt)
       (cases_Bool (p b))
 
   run_stops : (s : List ℕ) → 0 < length (drop (prefix_len p s) s) → p (get_or (drop (prefix_len p s) s) 0 0) ≡ false
@@ -98,7 +98,7 @@ module _ (p : ℕ → Bool) where
       (λ e. ap (λ n. p (get_or (drop n (b ∷ s)) 0 0)) (cond-false (p b) (1 + prefix_len p s) 0 e) ∙ e)
       (cases_Bool (p b))
 
-blank_run : (s : List ℕ) → All (λ b. b ≡ 32) (take (prefix_len space s) s)
+blank_run : (s : List ℕ) → AllByRecursion (λ b. b ≡ 32) (take (prefix_len space s) s)
 blank_run s = run_all space (λ b. b ≡ 32) (λ b e. eqb-true b 32 e) s
 
 cut_within : (n : ℕ) (s : List ℕ) → length s < n → Cut s (words_of s)
@@ -123,7 +123,7 @@ cut_within (suc n) s h =
     subst (Cut s) (sym (first_word s t w r refl some refl refl)) (r, first, cut_within n r (omega (arith, length-drop k t, length-drop (prefix_len space s) s))))
     (λ none.
     let whole = ap (λ l. take (prefix_len space s) s ++ l) (sym (nil_from_length t (omega arith))) ∙ take-append-drop (prefix_len space s) s in
-    subst (Cut s) (sym (no_word s t refl (omega arith))) (subst (All (λ b. b ≡ 32)) (sym (append-nil (take (prefix_len space s) s)) ∙ whole) (blank_run s)))
+    subst (Cut s) (sym (no_word s t refl (omega arith))) (subst (AllByRecursion (λ b. b ≡ 32)) (sym (append-nil (take (prefix_len space s) s)) ∙ whole) (blank_run s)))
     (cases_lt 0 (length t))
 
 pub cut : (s : List ℕ) → Cut s (words_of s)

@@ -1,6 +1,6 @@
 -- The words of a line.
 use Rattle.std.specs.Prelude.{◌≡◌, ℕ, ◌<◌, cond, not, List, [], ◌∷◌, ◌++◌, length, take, ◌==◌, ◌≢◌, slice_index}
-use Rattle.std.specs.List.{prefix_len, AllByRecursion as All}
+use Rattle.std.specs.List.{prefix_len, AllByRecursion}
 
 -- the bytes before the first '#'
 abbrev pub before_comment : List ℕ → List ℕ
@@ -24,12 +24,12 @@ words_of s = words_after [] s
 pub record First (s w rest : List ℕ) : Type 0 where
   pub gap : List ℕ
   pub parts : s ≡ gap ++ (w ++ rest)
-  pub blank : All (λ b. b ≡ 32) gap
+  pub blank : AllByRecursion (λ b. b ≡ 32) gap
   pub some : 0 < length w
-  pub solid : All (λ b. b ≢ 32) w
+  pub solid : AllByRecursion (λ b. b ≢ 32) w
   pub ends : 0 < length rest → slice_index rest 0 ≡ 32
 
 -- ws are the longest runs of bytes of s that are no spaces, in order
 abbrev pub Cut : List ℕ → List (List ℕ) → Type 0
-Cut s [] = All (λ b. b ≡ 32) s
+Cut s [] = AllByRecursion (λ b. b ≡ 32) s
 Cut s (w ∷ ws) = (rest : List ℕ) × First s w rest × Cut rest ws

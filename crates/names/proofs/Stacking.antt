@@ -1,7 +1,7 @@
 -- Look-up: over lists put one behind the other, one entry on in a list, and what it finds.
 use Rattle.std.proofs.Common.{◌≡◌, ℕ, ◌+◌, ◌<◌, true, false, cond, eqb, ◌↔◌, List, [], ◌∷◌, ◌++◌, length, get_or, drop, Some, None, sym, refl, ap, ◌∙◌, ⊎_elim, arith}
 use Rattle.std.specs.Option.{option_or}
-use Rattle.std.specs.List.{ContainsAt as Has, AllByRecursion as All}
+use Rattle.std.specs.List.{ContainsAt, AllByRecursion}
 use Rattle.std.proofs.ByRecursion.{has_append_right}
 use Rattle.std.proofs.lemmas.List.{at_drop_more}
 use Rattle.std.proofs.lemmas.Bool.Decides.{nat_tests, eqb_tells}
@@ -16,7 +16,7 @@ module _ {D : Type 0} (symbol : D → ℕ) where
       [ true ↦ refl | false ↦ lookup_append ds ys x ]
 
   -- what is found is an entry with the name that was asked for
-  pub lookup_found : (xs : List D) (x : ℕ) (d : D) → lookup symbol xs x ≡ Some d → (symbol d ≡ x) × Has xs d
+  pub lookup_found : (xs : List D) (x : ℕ) (d : D) → lookup symbol xs x ≡ Some d → (symbol d ≡ x) × ContainsAt xs d
   lookup_found [] x d h = absurd (grind arith)
   lookup_found (y ∷ ys) x d h =
       ⊎_elim
@@ -25,7 +25,7 @@ module _ {D : Type 0} (symbol : D → ℕ) where
       (eqb_tells (symbol y) x)
 
   -- nothing is found exactly where no entry has the name
-  pub lookup_absent : (xs : List D) (x : ℕ) → (lookup symbol xs x ≡ None) ↔ All (λ d. symbol d ≡ x → ⊥) xs
+  pub lookup_absent : (xs : List D) (x : ℕ) → (lookup symbol xs x ≡ None) ↔ AllByRecursion (λ d. symbol d ≡ x → ⊥) xs
   lookup_absent [] x = (λ _. tt, λ _. refl)
   lookup_absent (d ∷ ds) x =
       (λ h. (grind (arith, nat_tests), (lookup_absent ds x).0 (grind (arith, nat_tests))), λ h. let r = (lookup_absent ds x).1 h.1 in grind (arith, nat_tests, h.0))

@@ -1,7 +1,7 @@
 -- Environments: which definition each symbol has, and how two of them are put together.
 use Rattle.std.specs.Prelude.{◌≡◌, ℕ, true, cond, ◌↔◌, List, [], ◌∷◌, ◌++◌, is_some, Some, None, Option, ◌==◌, ◌≢◌}
 use Rattle.std.specs.Option.{option_or}
-use Rattle.std.specs.List.{ContainsAt as Has, AllByRecursion as All}
+use Rattle.std.specs.List.{ContainsAt, AllByRecursion}
 
 -- a partial function from symbols to definitions
 abbrev pub Env : Type 0 → Type 0
@@ -34,6 +34,6 @@ pub record Laws (D E : Type 0) : Type 0 where
   -- of environments that are apart, either may stand above the other
   pub either_way : (e f : Env D) (x : ℕ) → Apart e f → stacked e f x ≡ stacked f e x
   -- what is found is an entry with the name that was asked for
-  pub found : (symbol : D → ℕ) (xs : List D) (x : ℕ) (d : D) → lookup symbol xs x ≡ Some d → (symbol d ≡ x) × Has xs d
+  pub found : (symbol : D → ℕ) (xs : List D) (x : ℕ) (d : D) → lookup symbol xs x ≡ Some d → (symbol d ≡ x) × ContainsAt xs d
   -- nothing is found exactly where no entry has the name
-  pub absent : (symbol : D → ℕ) (xs : List D) (x : ℕ) → (lookup symbol xs x ≡ None) ↔ All (λ d. symbol d ≢ x) xs
+  pub absent : (symbol : D → ℕ) (xs : List D) (x : ℕ) → (lookup symbol xs x ≡ None) ↔ AllByRecursion (λ d. symbol d ≢ x) xs

@@ -2,7 +2,7 @@
 // generic over the size their values are not known to a proof.
 ghost use Rattle.rows.specs.Meaning.{meaning};
 ghost use Rattle.rows.specs.Found.{records_counted, cells_counted};
-ghost use Rattle.std.proofs.Common.{rules, arith};
+ghost use Rattle.std.proofs.Common.{lit≤};
 
 use super::held::Rows;
 use store::traits::Store;
@@ -20,7 +20,7 @@ impl Store for Rows<1000, 2000> {
 
     ghost model = { meaning };
 
-    ghost sizes = { first_of (Prim.search rules, Prim.grind (arith, Self.row.coded.inj)) };
+    ghost sizes = { λ s. (lit≤ tt, lit≤ tt, lit≤ tt) };
 
     ghost records = { λ s. records_counted s };
 
@@ -71,7 +71,7 @@ impl Store for Rows<5, 12> {
 
     ghost model = { meaning };
 
-    ghost sizes = { first_of (Prim.search rules, Prim.grind (arith, Self.row.coded.inj)) };
+    ghost sizes = { λ s. (lit≤ tt, lit≤ tt, lit≤ tt) };
 
     ghost records = { λ s. records_counted s };
 
