@@ -7,7 +7,7 @@ use Rattle.std.proofs.lemmas.List.{append_assoc, replicate_more, length-take, le
 use Rattle.std.proofs.lemmas.Option.{slice_get-get_or, slice_get_past}
 use Rattle.values.specs.declared.value.Value.{Value}
 use Rattle.values.specs.declared.value.Value.TheVariants.{Null}
-use Rattle.store.specs.Model.{Records, record_at, with_value_at, with_cell, cells_used}
+use Rattle.store.specs.Model.{record_at, with_value_at, with_cell, cells_used}
 use Rattle.rows.specs.Tiles.{tiles}
 use Rattle.rows.specs.Meaning.{cut, no_head}
 use Rattle.rows.specs.declared.held.Head.{Head}

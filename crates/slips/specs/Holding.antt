@@ -1,5 +1,5 @@
 -- What heads and slots that are linked say about the records.
-use Rattle.std.specs.Prelude.{◌≡◌, ℕ, zero, suc, ◌+◌, ◌-◌, ◌<◌, ◌≤◌, Bool, true, ◌&&◌, List, [], ◌∷◌, ◌++◌, map, length, replicate, Some, None, Option, nat_eq, nat_lt, refl}
+use Rattle.std.specs.Prelude.{◌≡◌, ℕ, zero, suc, ◌+◌, ◌-◌, ◌<◌, ◌≤◌, Bool, true, ◌&&◌, List, [], ◌∷◌, ◌++◌, map, length, replicate, Some, None, Option, nat_lt, refl}
 use Rattle.std.proofs.Common.{sym, ap, ◌∙◌, arith}
 use Rattle.std.specs.List.{slice_get, list_all}
 use Rattle.std.specs.Option.{option_map}
@@ -10,7 +10,7 @@ use Rattle.values.specs.declared.value.Value.TheVariants.{Null}
 use Rattle.store.specs.Model.{Rec, blank, record_at, cell_in, cell_at, with_value_at, with_cell, cells_used}
 use Rattle.slips.specs.declared.slot.Slot.{Slot}
 use Rattle.slips.specs.declared.slot.Head.{Head}
-use Rattle.slips.specs.Chains.{is_distinct, slot, after, chain, value_at, within, with_slot, nulled, used, every, linked, counts, rec_of, model_of, head_at, slot_in, slot_at}
+use Rattle.slips.specs.Chains.{is_distinct, after, chain, value_at, within, with_slot, nulled, used, every, linked, counts, rec_of, model_of, head_at, slot_in, slot_at}
 use Rattle.slips.specs.Passing.{outside, all_parts, all_nth, distinct_left, right_outside}
 use Rattle.slips.specs.Walking.{length_chain, chain_split, front_within, used_push, used_nth}
 use Rattle.slips.specs.Writing.{SameLinks, chain_same, used_same, records_here, length_nulled, nulled_links, nulled_values, nulled_records}
