@@ -122,7 +122,7 @@ fn new(
 }
 
 // A unary operator and its operand.
-#[cycle(arguments_assign_binary_cast_expr_instance_of_lvalue_method_call_rvalue_selection_unary)]
+#[cycle(expressions)]
 fn unary(
     nodes: &[Node],
     p: usize,
@@ -150,7 +150,7 @@ fn unary(
 }
 
 // A binary operator and its operands.
-#[cycle(arguments_assign_binary_cast_expr_instance_of_lvalue_method_call_rvalue_selection_unary)]
+#[cycle(expressions)]
 fn binary(
     nodes: &[Node],
     p: usize,
@@ -181,7 +181,7 @@ fn binary(
 }
 
 // An assignment.
-#[cycle(arguments_assign_binary_cast_expr_instance_of_lvalue_method_call_rvalue_selection_unary)]
+#[cycle(expressions)]
 fn assign(
     nodes: &[Node],
     p: usize,
@@ -205,7 +205,7 @@ fn assign(
 }
 
 // A value that is converted to a type.
-#[cycle(arguments_assign_binary_cast_expr_instance_of_lvalue_method_call_rvalue_selection_unary)]
+#[cycle(expressions)]
 fn cast(
     nodes: &[Node],
     p: usize,
@@ -236,7 +236,7 @@ fn cast(
 }
 
 // Whether a value is an object of a class.
-#[cycle(arguments_assign_binary_cast_expr_instance_of_lvalue_method_call_rvalue_selection_unary)]
+#[cycle(expressions)]
 fn instance_of(
     nodes: &[Node],
     p: usize,
@@ -267,7 +267,7 @@ fn instance_of(
 }
 
 // A field of an object.
-#[cycle(arguments_assign_binary_cast_expr_instance_of_lvalue_method_call_rvalue_selection_unary)]
+#[cycle(expressions)]
 fn selection(
     nodes: &[Node],
     p: usize,
@@ -315,7 +315,7 @@ fn selection(
 }
 
 // The left side of an assignment.
-#[cycle(arguments_assign_binary_cast_expr_instance_of_lvalue_method_call_rvalue_selection_unary)]
+#[cycle(expressions)]
 fn lvalue(
     nodes: &[Node],
     p: usize,
@@ -337,7 +337,7 @@ fn lvalue(
 }
 
 // A value that goes where the type `want` is declared.
-#[cycle(arguments_assign_binary_cast_expr_instance_of_lvalue_method_call_rvalue_selection_unary)]
+#[cycle(expressions)]
 pub fn rvalue(
     nodes: &[Node],
     p: usize,
@@ -361,7 +361,7 @@ pub fn rvalue(
 }
 
 // The arguments of the call at `p`, one for each parameter.
-#[cycle(arguments_assign_binary_cast_expr_instance_of_lvalue_method_call_rvalue_selection_unary)]
+#[cycle(expressions)]
 fn arguments(
     nodes: &[Node],
     p: usize,
@@ -399,7 +399,7 @@ fn arguments(
 }
 
 // A call of a method that the class of the receiver has.
-#[cycle(arguments_assign_binary_cast_expr_instance_of_lvalue_method_call_rvalue_selection_unary)]
+#[cycle(expressions)]
 fn method_call(
     nodes: &[Node],
     p: usize,
@@ -470,7 +470,7 @@ fn literal(
 }
 
 // An expression.
-#[cycle(arguments_assign_binary_cast_expr_instance_of_lvalue_method_call_rvalue_selection_unary)]
+#[cycle(expressions)]
 pub fn expr(
     nodes: &[Node],
     p: usize,

@@ -22,7 +22,7 @@ use Rattle.typing.proofs.Arguments.{types_length, passed_none, passed_below, pas
 use Rattle.typing.proofs.ClassTypes.{no_class, no_method}
 use Rattle.typing.proofs.Logs.{then_log, after_setting, after_ready}
 use Rattle.typing.proofs.Steps.{back}
-use Rattle.typing.proofs.expr.+arguments_assign_binary_cast_expr_instance_of_lvalue_method_call_rvalue_selection_unary.Goals as goal
+use Rattle.typing.proofs.expr.+expressions.Goals as goal
 
 pub unary-returns-in_err-of : goal.unary-returns-in_err-of
 unary-returns-in_err-of t c =

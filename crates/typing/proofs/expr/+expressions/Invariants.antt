@@ -3,7 +3,7 @@ use Rattle.table.specs.Shape.{node_at}
 use Rattle.library.specs.Contents.{contents}
 use Rattle.typing.specs.Settings.{setting}
 use Rattle.typing.proofs.Arguments.{Passed}
-use Rattle.typing.proofs.expr.+arguments_assign_binary_cast_expr_instance_of_lvalue_method_call_rvalue_selection_unary.Given as goal
+use Rattle.typing.proofs.expr.+expressions.Given as goal
 
 abbrev pub decreases-arguments : goal.decreases-arguments
 decreases-arguments l = 8 * (l.list.end - l.list.first) + 4
