@@ -1,33 +1,21 @@
 -- Views: how one is found, and that they move with the table, by the table alone, with no case for a kind.
-use Rattle.std.proofs.Common.{◌≡◌, ℕ, zero, suc, ◌+◌, ◌<◌, ◌≤◌, List, [], ◌∷◌, ◌++◌, map, length, get_or, refl, ap, ◌∙◌, inl, inr, arith}
+use Rattle.std.proofs.Common.{◌≡◌, ℕ, ◌+◌, ◌<◌, ◌≤◌, List, ◌++◌, length, refl, ap, ◌∙◌, inl, inr, arith}
 use Rattle.std.proofs.lemmas.List.{get_or_append_left, get_or-append-add}
 use Rattle.std.proofs.lemmas.Bool.{cases_lt, lt-ltb, le-ltb}
+use Rattle.std.proofs.Math.ListN.{get_or-map}
 use Rattle.table.specs.Shape.{node_at, end_of}
 use Rattle.table.specs.View.{view, past, heads, head_of, moved}
 use Rattle.table.specs.declared.kinds.Node.{Node}
 use Rattle.table.specs.declared.view.View.TheVariants.{Nothing}
 
 -- the view, from a kind and places that were found one by one
-pub view_from : (ns : List Node) (p n b c d : ℕ) → n ≡ (node_at ns p).kind → b ≡ past ns (end_of ns p) (p + 1) → c ≡ past ns (end_of ns p) b → d ≡ past ns (end_of ns p) c →
-    head_of n (node_at ns p).word (p + 1) b c d (end_of ns p) ≡ view ns p
+pub view_from : (ns : List Node) (p n e b c d : ℕ) → n ≡ (node_at ns p).kind → e ≡ end_of ns p → b ≡ past ns e (p + 1) → c ≡ past ns e b → d ≡ past ns e c →
+    head_of n (node_at ns p).word (p + 1) b c d e ≡ view ns p
 unfolding view
-view_from ns p n b c d i j k l =
-    let n' = (node_at ns p).kind in
-    let w = (node_at ns p).word in
-    let e = end_of ns p in
-    let b' = past ns e (p + 1) in
-    let c' = past ns e b' in
-    let k' = k ∙ ap (past ns e) j in
-    let l' = l ∙ ap (past ns e) k' in
-    ap (λ m. head_of m w (p + 1) b c d e) i ∙ ap (λ m. head_of n' w (p + 1) m c d e) j ∙ ap (λ m. head_of n' w (p + 1) b' m d e) k' ∙ ap (λ m. head_of n' w (p + 1) b' c' m e) l'
-
-pub getD_mapped : {X Y : Type 0} (f : X → Y) (xs : List X) (i : ℕ) (d : X) → get_or (map f xs) i (f d) ≡ f (get_or xs i d)
-getD_mapped f [] i d = refl
-getD_mapped f (x ∷ xs) zero d = refl
-getD_mapped f (x ∷ xs) (suc i) d = getD_mapped f xs i d
+view_from ns p n e b c d h i j k l = cc
 
 head_moved : (k n w a b c d e : ℕ) → head_of n w (k + a) (k + b) (k + c) (k + d) (k + e) ≡ moved k (head_of n w a b c d e)
-head_moved k n w a b c d e = getD_mapped (moved k) (heads w a b c d e) n Nothing
+head_moved k n w a b c d e = get_or-map (moved k) (heads w a b c d e) n Nothing
 
 module _ (P T S : List Node) where
   node_moved : (p : ℕ) → p < length T → node_at (P ++ (T ++ S)) (length P + p) ≡ node_at T p

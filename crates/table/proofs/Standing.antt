@@ -1,17 +1,15 @@
 -- The children that a view names are those of its node, each at its place.
 use Rattle.std.proofs.Common.{◌≡◌, ℕ, zero, suc, ◌+◌, ◌-◌, ◌≤◌, List, [], ◌∷◌, map, length, get_or, drop, sym, refl, ap, ◌∙◌, subst, arith}
-use Rattle.std.proofs.lemmas.List.{length-take}
 use Rattle.std.proofs.lemmas.Bool.{lt-ltb}
-use Rattle.table.specs.Kinds.{table, row, classes_of}
+use Rattle.std.proofs.Math.ListN.{get_or-map}
+use Rattle.table.specs.Kinds.{KindRow, table, row}
 use Rattle.table.specs.Shape.{Follow, Laid, node_at, end_of, children_of}
 use Rattle.table.specs.View.{view, past, heads, head_of, named, Stand}
 use Rattle.table.specs.declared.kinds.Node.{Node}
 use Rattle.table.specs.declared.kinds.Class.{Class}
-use Rattle.table.specs.declared.kinds.Row.{Row}
 use Rattle.table.specs.declared.kinds.Kind.TheVariants.{Program}
 use Rattle.table.specs.declared.kinds.Word.TheVariants.{Zero}
 use Rattle.table.specs.declared.view.View.TheVariants.{Nothing, List as Elements}
-use Rattle.table.proofs.Moving.{getD_mapped}
 use Rattle.table.proofs.Rows.{row_narrow}
 
 abbrev paired : List Class → List ℕ → List (Class × ℕ)
@@ -19,8 +17,8 @@ paired [] qs = []
 paired (c ∷ cs) [] = []
 paired (c ∷ cs) (q ∷ qs) = (c, q) ∷ paired cs qs
 
-abbrev children_at : ℕ → ℕ → ℕ → ℕ → Row → List (Class × ℕ)
-children_at a b c d r = paired (classes_of r) (a ∷ b ∷ c ∷ d ∷ [])
+abbrev children_at : ℕ → ℕ → ℕ → ℕ → KindRow → List (Class × ℕ)
+children_at a b c d r = paired r.children (a ∷ b ∷ c ∷ d ∷ [])
 
 -- every view names the children of its kind's row: one test over the whole table
 rows_named : (w a b c d e : ℕ) → map named (drop 1 (heads w a b c d e)) ≡ map (children_at a b c d) table
@@ -30,9 +28,9 @@ head_named : (k w a b c d e : ℕ) → 1 ≤ k → named (head_of k w a b c d e)
 head_named zero w a b c d e h = absurd (omega arith)
 head_named (suc k) w a b c d e h =
     let i : k ≡ suc k - 1 = omega arith in
-    sym (getD_mapped named (drop 1 (heads w a b c d e)) k Nothing) ∙
+    sym (get_or-map named (drop 1 (heads w a b c d e)) k Nothing) ∙
     ap (λ xs. get_or xs k []) (rows_named w a b c d e) ∙
-    getD_mapped (children_at a b c d) table k (row Program [] Zero) ∙
+    get_or-map (children_at a b c d) table k (row Program [] Zero) ∙
     ap (λ j. children_at a b c d (get_or table j (row Program [] Zero))) i
 
 module _ (ns : List Node) (e : ℕ) where
@@ -57,7 +55,7 @@ view_stands ns p l n =
     let k = (node_at ns p).kind in
     let m = row_narrow k l.lowest l.highest in
     subst (Stand ns (end_of ns p) (p + 1)) (sym (head_named k _ _ _ _ _ _ l.lowest))
-    (stand ns (end_of ns p) 4 (children_of k) (p + 1) (simp length-take (omega arith)) (l.children.1 n))
+    (stand ns (end_of ns p) 4 (children_of k) (p + 1) m (l.children.1 n))
 
 -- the elements of a List begin behind it and end with its part
 pub view_list : (ns : List Node) (p : ℕ) → (node_at ns p).kind ≡ 2 → view ns p ≡ Elements (p + 1) (end_of ns p)

@@ -1,16 +1,16 @@
 -- The 48 kinds of node: their numbers, their children, and the words that they carry.
-use Rattle.std.specs.Prelude.{ℕ, ◌-◌, ◌/◌, ◌%◌, ◌^◌, Bool, true, false, not, ◌&&◌, List, [], ◌∷◌, length, take, ◌==◌, nat_le, nat_lt, slice_index_or}
+use Rattle.std.specs.Prelude.{◌≡◌, ℕ, ◌-◌, ◌/◌, ◌%◌, ◌^◌, ◌≤◌, Bool, true, not, ◌&&◌, Result, MatchResult, List, [], ◌∷◌, ◌==◌, nat_le, nat_lt, slice_index_or}
 use Rattle.table.specs.declared.kinds.Node.{Node}
 use Rattle.table.specs.declared.kinds.Kind.{Kind}
 use Rattle.table.specs.declared.kinds.Kind.TheVariants.{Program, List as ListNode, DeclClass, DeclField, DeclMethod, DeclParam, DeclVar, Initialization, NoInitialization, MethodBody, Main, EmptyMain, Print, Println, IfThenElse, NoOperation, Return, While, Assign, Divide, Minus, Modulo, Multiply, Plus, And, Or, Equals, NotEquals, Greater, GreaterOrEquals, Lower, LowerOrEquals, UnaryMinus, Not, ReadInt, ReadFloat, Cast, InstanceOf, MethodCall, New, This, IntLiteral, FloatLiteral, StringLiteral, BooleanLiteral, NullLiteral, Selection, Identifier}
 use Rattle.table.specs.declared.kinds.Listed.{Listed}
 use Rattle.table.specs.declared.kinds.Listed.TheVariants.{Classes, Fields, Methods, Params, Vars, Instructions, Expressions}
 use Rattle.table.specs.declared.kinds.Class.{Class}
-use Rattle.table.specs.declared.kinds.Class.TheVariants.{Name, Expression, Instruction, Target, Initializer, Body, MainBlock, OneClass, OneField, OneMethod, OneParam, OneVar, ListOf, Nothing}
+use Rattle.table.specs.declared.kinds.Class.TheVariants.{Name, Expression, Instruction, Target, Initializer, Body, MainBlock, OneClass, OneField, OneMethod, OneParam, OneVar, ListOf}
 use Rattle.table.specs.declared.kinds.Word.{Word}
 use Rattle.table.specs.declared.kinds.Word.TheVariants.{Zero, Symbol, Flag, Int, Float, Text, ListWord}
-use Rattle.table.specs.declared.kinds.Row.{Row}
 use Rattle.table.specs.declared.kinds.ListRow.{ListRow}
+use Rattle.table.specs.declared.kinds.Unknown.{Unknown}
 
 -- the number of a kind
 abbrev pub number_of : Kind → ℕ
@@ -63,6 +63,10 @@ number_of NullLiteral = 46
 number_of Selection = 47
 number_of Identifier = 48
 
+-- what is made of a number: the kind that has it, or an error with a number that no kind has
+abbrev pub KindNumbered : ℕ → Result Kind (Unknown ℕ) → Type 0
+KindNumbered n r = MatchResult r (λ k. number_of k ≡ n) (λ e. (e.0 ≡ n) × ¬ ((1 ≤ n) × (n ≤ 48)))
+
 -- the word of a list
 abbrev pub word_of : Listed → ℕ
 word_of Classes = 1
@@ -73,12 +77,15 @@ word_of Vars = 5
 word_of Instructions = 6
 word_of Expressions = 7
 
+-- what is made of a word: the list that has it, or an error with a word that no list has
+abbrev pub ListWorded : ℕ → Result Listed (Unknown ℕ) → Type 0
+ListWorded w r = MatchResult r (λ l. word_of l ≡ w) (λ e. (e.0 ≡ w) × ¬ ((1 ≤ w) × (w ≤ 7)))
+
 abbrev pub between : ℕ → ℕ → ℕ → Bool
 between low high n = nat_le low n && nat_le n high
 
 -- the first and the last kind of a class
 abbrev pub range : Class → Kind × Kind
-range Nothing = (Program, Program)
 range Name = (Identifier, Identifier)
 range Expression = (Assign, Identifier)
 range Instruction = (Print, Identifier)
@@ -95,7 +102,6 @@ range (ListOf l) = (ListNode, ListNode)
 
 -- whether a class has a node of those kinds with the word w: of lists, it has those of one word
 abbrev pub carries : Class → ℕ → Bool
-carries Nothing w = false
 carries Name w = true
 carries Expression w = true
 carries Instruction w = true
@@ -124,15 +130,20 @@ fits Float w = not ((w / 2 ^ 52) % 2048 == 2047)
 fits Text w = nat_lt w 65536
 fits ListWord w = between 1 7 w
 
--- a row for a kind with these children, at most four
-abbrev pub row : Kind → List Class → Word → Row
-row k cs w = record { kind = k; count = length cs; first = slice_index_or cs 0 Nothing; second = slice_index_or cs 1 Nothing; third = slice_index_or cs 2 Nothing; fourth = slice_index_or cs 3 Nothing; word = w }
+-- a kind, the classes of its children in order, and the word that it carries
+pub record KindRow : Type 0 where
+  pub kind : Kind
+  pub children : List Class
+  pub word : Word
+
+abbrev pub row : Kind → List Class → Word → KindRow
+row k cs w = record { kind = k; children = cs; word = w }
 
 abbrev pub list : Listed → Class
 list l = ListOf l
 
 -- the kinds in the order of their numbers, 1 to 48
-abbrev pub table : List Row
+abbrev pub table : List KindRow
 table =
     row Program (list Classes ∷ MainBlock ∷ []) Zero ∷
     row ListNode [] ListWord ∷
@@ -196,12 +207,8 @@ lists =
     record { list = Expressions; element = Expression; most = 16 } ∷
     []
 
--- the classes of the children in a row
-abbrev pub classes_of : Row → List Class
-classes_of r = take r.count (r.first ∷ r.second ∷ r.third ∷ r.fourth ∷ [])
-
-abbrev pub row_of : ℕ → Row
+abbrev pub row_of : ℕ → KindRow
 row_of k = slice_index_or table (k - 1) (row Program [] Zero)
 
 abbrev pub list_row_of : ℕ → ListRow
-list_row_of w = slice_index_or lists (w - 1) (record { list = Classes; element = Nothing; most = 0 })
+list_row_of w = slice_index_or lists (w - 1) (record { list = Classes; element = OneClass; most = 0 })

@@ -1,6 +1,6 @@
 -- The shape of a batch: what each position of its table has to be.
-use Rattle.std.specs.Prelude.{◌≡◌, ℕ, zero, suc, ◌+◌, ◌<◌, ◌≤◌, true, cond, List, [], ◌∷◌, length, replicate, ◌≢◌, nat_lt, slice_index_or}
-use Rattle.table.specs.Kinds.{admits, fits, classes_of, row_of, list_row_of}
+use Rattle.std.specs.Prelude.{◌≡◌, ℕ, zero, suc, ◌+◌, ◌<◌, ◌≤◌, true, cond, Option, Some, None, List, [], ◌∷◌, length, replicate, ◌≢◌, nat_lt, slice_index_or}
+use Rattle.table.specs.Kinds.{admits, fits, row_of, list_row_of}
 use Rattle.table.specs.declared.kinds.Node.{Node}
 use Rattle.table.specs.declared.kinds.Class.{Class}
 use Rattle.table.specs.declared.shape.ShapeFault.{ShapeFault}
@@ -31,7 +31,7 @@ Elements ns e c m q = (k : ℕ) × (k ≤ m) × Follow ns e (replicate k c) q
 
 -- the classes of a kind's children, for all kinds but List
 abbrev pub children_of : ℕ → List Class
-children_of k = classes_of (row_of k)
+children_of k = (row_of k).children
 
 -- the elements that a List with the word w may hold
 pub record Listing (ns : List Node) (w q e : ℕ) : Type 0 where
@@ -108,6 +108,13 @@ refusal Length = 1
 refusal (Layout p) = 2
 refusal (Word p) = 3
 refusal (Depth p) = 4
+
+-- the first faulty position, where a fault has one
+abbrev pub place_of : ShapeFault → Option ℕ
+place_of Length = None
+place_of (Layout p) = Some p
+place_of (Word p) = Some p
+place_of (Depth p) = Some p
 
 -- no table is both formed and refused, and none is refused in two ways
 pub record Settled (ns : List Node) : Type 0 where

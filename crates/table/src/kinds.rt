@@ -1,6 +1,13 @@
 // The 48 kinds of node: the children that each has and the word that it carries, as one table.
-ghost use Rattle.std.specs.Prelude.{◌≡◌, ◌≤◌, ◌==◌};
-ghost use Rattle.table.specs.Kinds.{admits, range, carries, between, fits, row_of, list_row_of, number_of, word_of};
+ghost use Rattle.std.specs.Prelude.{◌≡◌};
+ghost use Rattle.table.specs.declared.kinds.Word.TheVariants.{Float};
+ghost use Rattle.table.specs.Kinds.{admits, range, carries, between, fits, row_of, list_row_of, number_of, word_of, KindNumbered, ListWorded};
+
+// The weight of the sign's bit among those of a float.
+const SIGN: u64 = 0x8000_0000_0000_0000;
+
+// The bits of the positive infinity: of those without a sign, they are the lowest that stand for no finite float.
+const INFINITY: u64 = 0x7ff0_0000_0000_0000;
 
 // A node of a batch, as it is handed in.
 #[repr(C)]
@@ -11,7 +18,7 @@ pub struct Node {
     pub word: u64,
 }
 
-#[derive(Clone, Copy)]
+#[derive(Clone, Copy, PartialEq, Eq)]
 pub enum Kind {
     Program = 1,
     List = 2,
@@ -78,8 +85,6 @@ pub enum Listed {
 // The nodes that may stand at one place among the children of a node.
 #[derive(Clone, Copy)]
 pub enum Class {
-    // no node at all; it fills the rows of the table up
-    Nothing,
     // an Identifier that names something, a super-class or a type
     Name,
     Expression,
@@ -117,16 +122,12 @@ pub enum Word {
     ListWord,
 }
 
-// A row of the table: how many children a kind has, and their classes in order.
+// A row of the table: a kind, the classes of its children in order, and the word that it carries.
 // A List has the children that its word says (`LISTS`).
 #[derive(Clone, Copy)]
 pub(super) struct Row {
     pub kind: Kind,
-    pub count: usize,
-    pub first: Class,
-    pub second: Class,
-    pub third: Class,
-    pub fourth: Class,
+    pub children: &'static [Class],
     pub word: Word,
 }
 
@@ -139,55 +140,55 @@ pub(super) struct ListRow {
 }
 
 #[rattlefmt::skip]
-pub(super) static ROWS: [Row; 48] = [
-    Row { kind: Kind::Program, count: 2, first: Class::ListOf(Listed::Classes), second: Class::MainBlock, third: Class::Nothing, fourth: Class::Nothing, word: Word::Zero },
-    Row { kind: Kind::List, count: 0, first: Class::Nothing, second: Class::Nothing, third: Class::Nothing, fourth: Class::Nothing, word: Word::ListWord },
-    Row { kind: Kind::DeclClass, count: 4, first: Class::Name, second: Class::Name, third: Class::ListOf(Listed::Fields), fourth: Class::ListOf(Listed::Methods), word: Word::Zero },
-    Row { kind: Kind::DeclField, count: 3, first: Class::Name, second: Class::Name, third: Class::Initializer, fourth: Class::Nothing, word: Word::Flag },
-    Row { kind: Kind::DeclMethod, count: 4, first: Class::Name, second: Class::Name, third: Class::ListOf(Listed::Params), fourth: Class::Body, word: Word::Zero },
-    Row { kind: Kind::DeclParam, count: 2, first: Class::Name, second: Class::Name, third: Class::Nothing, fourth: Class::Nothing, word: Word::Zero },
-    Row { kind: Kind::DeclVar, count: 3, first: Class::Name, second: Class::Name, third: Class::Initializer, fourth: Class::Nothing, word: Word::Zero },
-    Row { kind: Kind::Initialization, count: 1, first: Class::Expression, second: Class::Nothing, third: Class::Nothing, fourth: Class::Nothing, word: Word::Zero },
-    Row { kind: Kind::NoInitialization, count: 0, first: Class::Nothing, second: Class::Nothing, third: Class::Nothing, fourth: Class::Nothing, word: Word::Zero },
-    Row { kind: Kind::MethodBody, count: 2, first: Class::ListOf(Listed::Vars), second: Class::ListOf(Listed::Instructions), third: Class::Nothing, fourth: Class::Nothing, word: Word::Zero },
-    Row { kind: Kind::Main, count: 2, first: Class::ListOf(Listed::Vars), second: Class::ListOf(Listed::Instructions), third: Class::Nothing, fourth: Class::Nothing, word: Word::Zero },
-    Row { kind: Kind::EmptyMain, count: 0, first: Class::Nothing, second: Class::Nothing, third: Class::Nothing, fourth: Class::Nothing, word: Word::Zero },
-    Row { kind: Kind::Print, count: 1, first: Class::ListOf(Listed::Expressions), second: Class::Nothing, third: Class::Nothing, fourth: Class::Nothing, word: Word::Zero },
-    Row { kind: Kind::Println, count: 1, first: Class::ListOf(Listed::Expressions), second: Class::Nothing, third: Class::Nothing, fourth: Class::Nothing, word: Word::Zero },
-    Row { kind: Kind::IfThenElse, count: 3, first: Class::Expression, second: Class::ListOf(Listed::Instructions), third: Class::ListOf(Listed::Instructions), fourth: Class::Nothing, word: Word::Zero },
-    Row { kind: Kind::NoOperation, count: 0, first: Class::Nothing, second: Class::Nothing, third: Class::Nothing, fourth: Class::Nothing, word: Word::Zero },
-    Row { kind: Kind::Return, count: 1, first: Class::Expression, second: Class::Nothing, third: Class::Nothing, fourth: Class::Nothing, word: Word::Zero },
-    Row { kind: Kind::While, count: 2, first: Class::Expression, second: Class::ListOf(Listed::Instructions), third: Class::Nothing, fourth: Class::Nothing, word: Word::Zero },
-    Row { kind: Kind::Assign, count: 2, first: Class::Target, second: Class::Expression, third: Class::Nothing, fourth: Class::Nothing, word: Word::Zero },
-    Row { kind: Kind::Divide, count: 2, first: Class::Expression, second: Class::Expression, third: Class::Nothing, fourth: Class::Nothing, word: Word::Zero },
-    Row { kind: Kind::Minus, count: 2, first: Class::Expression, second: Class::Expression, third: Class::Nothing, fourth: Class::Nothing, word: Word::Zero },
-    Row { kind: Kind::Modulo, count: 2, first: Class::Expression, second: Class::Expression, third: Class::Nothing, fourth: Class::Nothing, word: Word::Zero },
-    Row { kind: Kind::Multiply, count: 2, first: Class::Expression, second: Class::Expression, third: Class::Nothing, fourth: Class::Nothing, word: Word::Zero },
-    Row { kind: Kind::Plus, count: 2, first: Class::Expression, second: Class::Expression, third: Class::Nothing, fourth: Class::Nothing, word: Word::Zero },
-    Row { kind: Kind::And, count: 2, first: Class::Expression, second: Class::Expression, third: Class::Nothing, fourth: Class::Nothing, word: Word::Zero },
-    Row { kind: Kind::Or, count: 2, first: Class::Expression, second: Class::Expression, third: Class::Nothing, fourth: Class::Nothing, word: Word::Zero },
-    Row { kind: Kind::Equals, count: 2, first: Class::Expression, second: Class::Expression, third: Class::Nothing, fourth: Class::Nothing, word: Word::Zero },
-    Row { kind: Kind::NotEquals, count: 2, first: Class::Expression, second: Class::Expression, third: Class::Nothing, fourth: Class::Nothing, word: Word::Zero },
-    Row { kind: Kind::Greater, count: 2, first: Class::Expression, second: Class::Expression, third: Class::Nothing, fourth: Class::Nothing, word: Word::Zero },
-    Row { kind: Kind::GreaterOrEquals, count: 2, first: Class::Expression, second: Class::Expression, third: Class::Nothing, fourth: Class::Nothing, word: Word::Zero },
-    Row { kind: Kind::Lower, count: 2, first: Class::Expression, second: Class::Expression, third: Class::Nothing, fourth: Class::Nothing, word: Word::Zero },
-    Row { kind: Kind::LowerOrEquals, count: 2, first: Class::Expression, second: Class::Expression, third: Class::Nothing, fourth: Class::Nothing, word: Word::Zero },
-    Row { kind: Kind::UnaryMinus, count: 1, first: Class::Expression, second: Class::Nothing, third: Class::Nothing, fourth: Class::Nothing, word: Word::Zero },
-    Row { kind: Kind::Not, count: 1, first: Class::Expression, second: Class::Nothing, third: Class::Nothing, fourth: Class::Nothing, word: Word::Zero },
-    Row { kind: Kind::ReadInt, count: 0, first: Class::Nothing, second: Class::Nothing, third: Class::Nothing, fourth: Class::Nothing, word: Word::Zero },
-    Row { kind: Kind::ReadFloat, count: 0, first: Class::Nothing, second: Class::Nothing, third: Class::Nothing, fourth: Class::Nothing, word: Word::Zero },
-    Row { kind: Kind::Cast, count: 2, first: Class::Name, second: Class::Expression, third: Class::Nothing, fourth: Class::Nothing, word: Word::Zero },
-    Row { kind: Kind::InstanceOf, count: 2, first: Class::Expression, second: Class::Name, third: Class::Nothing, fourth: Class::Nothing, word: Word::Zero },
-    Row { kind: Kind::MethodCall, count: 3, first: Class::Expression, second: Class::Name, third: Class::ListOf(Listed::Expressions), fourth: Class::Nothing, word: Word::Zero },
-    Row { kind: Kind::New, count: 1, first: Class::Name, second: Class::Nothing, third: Class::Nothing, fourth: Class::Nothing, word: Word::Zero },
-    Row { kind: Kind::This, count: 0, first: Class::Nothing, second: Class::Nothing, third: Class::Nothing, fourth: Class::Nothing, word: Word::Zero },
-    Row { kind: Kind::IntLiteral, count: 0, first: Class::Nothing, second: Class::Nothing, third: Class::Nothing, fourth: Class::Nothing, word: Word::Int },
-    Row { kind: Kind::FloatLiteral, count: 0, first: Class::Nothing, second: Class::Nothing, third: Class::Nothing, fourth: Class::Nothing, word: Word::Float },
-    Row { kind: Kind::StringLiteral, count: 0, first: Class::Nothing, second: Class::Nothing, third: Class::Nothing, fourth: Class::Nothing, word: Word::Text },
-    Row { kind: Kind::BooleanLiteral, count: 0, first: Class::Nothing, second: Class::Nothing, third: Class::Nothing, fourth: Class::Nothing, word: Word::Flag },
-    Row { kind: Kind::NullLiteral, count: 0, first: Class::Nothing, second: Class::Nothing, third: Class::Nothing, fourth: Class::Nothing, word: Word::Zero },
-    Row { kind: Kind::Selection, count: 2, first: Class::Expression, second: Class::Name, third: Class::Nothing, fourth: Class::Nothing, word: Word::Zero },
-    Row { kind: Kind::Identifier, count: 0, first: Class::Nothing, second: Class::Nothing, third: Class::Nothing, fourth: Class::Nothing, word: Word::Symbol },
+static ROWS: [Row; 48] = [
+    Row { kind: Kind::Program, children: &[Class::ListOf(Listed::Classes), Class::MainBlock], word: Word::Zero },
+    Row { kind: Kind::List, children: &[], word: Word::ListWord },
+    Row { kind: Kind::DeclClass, children: &[Class::Name, Class::Name, Class::ListOf(Listed::Fields), Class::ListOf(Listed::Methods)], word: Word::Zero },
+    Row { kind: Kind::DeclField, children: &[Class::Name, Class::Name, Class::Initializer], word: Word::Flag },
+    Row { kind: Kind::DeclMethod, children: &[Class::Name, Class::Name, Class::ListOf(Listed::Params), Class::Body], word: Word::Zero },
+    Row { kind: Kind::DeclParam, children: &[Class::Name, Class::Name], word: Word::Zero },
+    Row { kind: Kind::DeclVar, children: &[Class::Name, Class::Name, Class::Initializer], word: Word::Zero },
+    Row { kind: Kind::Initialization, children: &[Class::Expression], word: Word::Zero },
+    Row { kind: Kind::NoInitialization, children: &[], word: Word::Zero },
+    Row { kind: Kind::MethodBody, children: &[Class::ListOf(Listed::Vars), Class::ListOf(Listed::Instructions)], word: Word::Zero },
+    Row { kind: Kind::Main, children: &[Class::ListOf(Listed::Vars), Class::ListOf(Listed::Instructions)], word: Word::Zero },
+    Row { kind: Kind::EmptyMain, children: &[], word: Word::Zero },
+    Row { kind: Kind::Print, children: &[Class::ListOf(Listed::Expressions)], word: Word::Zero },
+    Row { kind: Kind::Println, children: &[Class::ListOf(Listed::Expressions)], word: Word::Zero },
+    Row { kind: Kind::IfThenElse, children: &[Class::Expression, Class::ListOf(Listed::Instructions), Class::ListOf(Listed::Instructions)], word: Word::Zero },
+    Row { kind: Kind::NoOperation, children: &[], word: Word::Zero },
+    Row { kind: Kind::Return, children: &[Class::Expression], word: Word::Zero },
+    Row { kind: Kind::While, children: &[Class::Expression, Class::ListOf(Listed::Instructions)], word: Word::Zero },
+    Row { kind: Kind::Assign, children: &[Class::Target, Class::Expression], word: Word::Zero },
+    Row { kind: Kind::Divide, children: &[Class::Expression, Class::Expression], word: Word::Zero },
+    Row { kind: Kind::Minus, children: &[Class::Expression, Class::Expression], word: Word::Zero },
+    Row { kind: Kind::Modulo, children: &[Class::Expression, Class::Expression], word: Word::Zero },
+    Row { kind: Kind::Multiply, children: &[Class::Expression, Class::Expression], word: Word::Zero },
+    Row { kind: Kind::Plus, children: &[Class::Expression, Class::Expression], word: Word::Zero },
+    Row { kind: Kind::And, children: &[Class::Expression, Class::Expression], word: Word::Zero },
+    Row { kind: Kind::Or, children: &[Class::Expression, Class::Expression], word: Word::Zero },
+    Row { kind: Kind::Equals, children: &[Class::Expression, Class::Expression], word: Word::Zero },
+    Row { kind: Kind::NotEquals, children: &[Class::Expression, Class::Expression], word: Word::Zero },
+    Row { kind: Kind::Greater, children: &[Class::Expression, Class::Expression], word: Word::Zero },
+    Row { kind: Kind::GreaterOrEquals, children: &[Class::Expression, Class::Expression], word: Word::Zero },
+    Row { kind: Kind::Lower, children: &[Class::Expression, Class::Expression], word: Word::Zero },
+    Row { kind: Kind::LowerOrEquals, children: &[Class::Expression, Class::Expression], word: Word::Zero },
+    Row { kind: Kind::UnaryMinus, children: &[Class::Expression], word: Word::Zero },
+    Row { kind: Kind::Not, children: &[Class::Expression], word: Word::Zero },
+    Row { kind: Kind::ReadInt, children: &[], word: Word::Zero },
+    Row { kind: Kind::ReadFloat, children: &[], word: Word::Zero },
+    Row { kind: Kind::Cast, children: &[Class::Name, Class::Expression], word: Word::Zero },
+    Row { kind: Kind::InstanceOf, children: &[Class::Expression, Class::Name], word: Word::Zero },
+    Row { kind: Kind::MethodCall, children: &[Class::Expression, Class::Name, Class::ListOf(Listed::Expressions)], word: Word::Zero },
+    Row { kind: Kind::New, children: &[Class::Name], word: Word::Zero },
+    Row { kind: Kind::This, children: &[], word: Word::Zero },
+    Row { kind: Kind::IntLiteral, children: &[], word: Word::Int },
+    Row { kind: Kind::FloatLiteral, children: &[], word: Word::Float },
+    Row { kind: Kind::StringLiteral, children: &[], word: Word::Text },
+    Row { kind: Kind::BooleanLiteral, children: &[], word: Word::Flag },
+    Row { kind: Kind::NullLiteral, children: &[], word: Word::Zero },
+    Row { kind: Kind::Selection, children: &[Class::Expression, Class::Name], word: Word::Zero },
+    Row { kind: Kind::Identifier, children: &[], word: Word::Symbol },
 ];
 
 #[rattlefmt::skip]
@@ -201,49 +202,76 @@ static LISTS: [ListRow; 7] = [
     ListRow { list: Listed::Expressions, element: Class::Expression, most: 16 },
 ];
 
-// The row of a kind, by its number.
-pub(super) fn row_of(kind: u8) -> Row
-    requires { (1 ≤ kind) × (kind ≤ 48) }
-    ensures { result ≡ row_of kind }
-{
-    ROWS[kind as usize - 1]
+// A number that no kind has, or a word that no List has.
+#[derive(Clone, Copy, Debug, PartialEq, Eq)]
+pub struct Unknown<N>(pub N);
+
+impl TryFrom<u8> for Kind {
+    type Error = Unknown<u8>;
+
+    ghost try_from_gives = { KindNumbered };
+
+    fn try_from(number: u8) -> Result<Kind, Unknown<u8>> {
+        match number {
+            1..=48 => Ok(ROWS[usize::from(number) - 1].kind),
+            _ => Err(Unknown(number)),
+        }
+    }
 }
 
-// What a List holds, by its word.
-pub(super) fn list_row_of(word: u64) -> ListRow
-    requires { (1 ≤ word) × (word ≤ 7) }
-    ensures { result ≡ list_row_of word }
-{
-    LISTS[word as usize - 1]
+impl From<Kind> for u8 {
+    ghost from_gives = { λ kind number. number ≡ number_of kind };
+
+    fn from(kind: Kind) -> u8 {
+        kind as u8
+    }
 }
 
 impl Kind {
-    fn number(self) -> u8
-        ensures { result ≡ number_of self }
+    pub(super) fn row(self) -> Row
+        ensures kind { result.kind ≡ (row_of (number_of self)).kind }
+        ensures children { result.children.now ≡ (row_of (number_of self)).children }
+        ensures word { result.word ≡ (row_of (number_of self)).word }
     {
-        self as u8
+        ROWS[usize::from(u8::from(self)) - 1]
     }
 }
 
-impl Node {
-    pub(super) fn is(self, kind: Kind) -> bool
-        ensures { result ≡ (self.kind == number_of kind) }
-    {
-        self.kind == kind.number()
-    }
+// A kind and what a List holds share the traits of std; a table generic over both would be a third trait with two impls, and longer.
+impl TryFrom<u64> for Listed {
+    type Error = Unknown<u64>;
 
-    fn is_between(self, low: Kind, high: Kind) -> bool
-        ensures { result ≡ between (number_of low) (number_of high) self.kind }
-    {
-        low.number() <= self.kind && self.kind <= high.number()
+    ghost try_from_gives = { ListWorded };
+
+    fn try_from(word: u64) -> Result<Listed, Unknown<u64>> {
+        match word {
+            1..=7 => Ok(LISTS[word as usize - 1].list),
+            _ => Err(Unknown(word)),
+        }
+    }
+}
+
+impl From<Listed> for u64 {
+    ghost from_gives = { λ list word. word ≡ word_of list };
+
+    fn from(list: Listed) -> u64 {
+        list as u64
     }
 }
 
 impl Listed {
-    fn word(self) -> u64
-        ensures { result ≡ word_of self }
+    pub(super) fn row(self) -> ListRow
+        ensures { result ≡ list_row_of (word_of self) }
     {
-        self as u64
+        LISTS[self as usize - 1]
+    }
+}
+
+impl Node {
+    fn is_between(self, low: Kind, high: Kind) -> bool
+        ensures { result ≡ between (number_of low) (number_of high) self.kind }
+    {
+        (u8::from(low)..=u8::from(high)).contains(&self.kind)
     }
 }
 
@@ -253,7 +281,6 @@ impl Class {
         ensures { result ≡ range self }
     {
         match self {
-            Class::Nothing => (Kind::Program, Kind::Program),
             Class::Name => (Kind::Identifier, Kind::Identifier),
             Class::Expression => (Kind::Assign, Kind::Identifier),
             Class::Instruction => (Kind::Print, Kind::Identifier),
@@ -275,8 +302,7 @@ impl Class {
         ensures { result ≡ carries self word }
     {
         match self {
-            Class::Nothing => false,
-            Class::ListOf(list) => word == list.word(),
+            Class::ListOf(list) => word == u64::from(list),
             _ => true,
         }
     }
@@ -289,18 +315,25 @@ impl Class {
     }
 }
 
+// Whether the bits stand for a finite float.
+pub fn is_finite(bits: u64) -> bool
+    ensures { result ≡ fits Float bits }
+{
+    bits % SIGN < INFINITY
+}
+
 impl Word {
     pub(super) fn allows(self, word: u64) -> bool
         ensures { result ≡ fits self word }
     {
         match self {
             Word::Zero => word == 0,
-            Word::Symbol => word >= 1 && word <= 65535,
+            Word::Symbol => word != 0 && u16::try_from(word).is_ok(),
             Word::Flag => word <= 1,
-            Word::Int => word < 2147483648,
-            Word::Float => word / 4503599627370496 % 2048 != 2047,
-            Word::Text => word < 65536,
-            Word::ListWord => word >= 1 && word <= 7,
+            Word::Int => i32::try_from(word).is_ok(),
+            Word::Float => is_finite(word),
+            Word::Text => u16::try_from(word).is_ok(),
+            Word::ListWord => Listed::try_from(word).is_ok(),
         }
     }
 }

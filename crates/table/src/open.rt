@@ -1,10 +1,13 @@
 // The depth of a node while a table is gone through: the parts that are open around it.
-ghost use Rattle.std.specs.Prelude.{◌≡◌, ℕ, ◌+◌, ◌-◌, ◌<◌, ◌≤◌, true, List, length, Decides, slice_index};
+ghost use Rattle.std.specs.Prelude.{◌≡◌, ℕ, ◌+◌, ◌<◌, ◌≤◌, List, length, MatchResult};
 ghost use Rattle.table.specs.declared.kinds.Node.{Node};
+ghost use Rattle.table.specs.declared.shape.ShapeFault.TheVariants.{Depth};
 ghost use Rattle.table.specs.Shape.{Laid, depth};
 ghost use Rattle.table.specs.Open.{Opens};
 
 use super::kinds::Node;
+use super::shape::{ShapeFault, end_of};
+use arrayvec::ArrayVec;
 
 // A node may lie in this many parts, its own too.
 const DEEPEST: usize = 64;
@@ -12,47 +15,31 @@ const DEEPEST: usize = 64;
 // The ends of the parts that are open at a position, the outermost first.
 #[derive(Drop)]
 pub struct OpenParts {
-    ends: [usize; 64],
-    len: usize,
+    ends: ArrayVec<usize, DEEPEST>,
 }
 
 impl OpenParts {
     pub fn new() -> OpenParts
-        ensures { (ns : List Node) → Opens ns 0 result.len result.ends }
+        ensures { (ns : List Node) → Opens ns 0 result.ends.items }
     {
         OpenParts {
-            ends: [0; 64],
-            len: 0,
-        }
-    }
-
-    // Closes the parts that end at `at` or before it; they are the innermost ones.
-    fn close(&mut self, at: usize)
-        requires { self.old.len ≤ 64 }
-        ensures same { self.new.ends ≡ self.old.ends }
-        ensures fewer { self.new.len ≤ self.old.len }
-        ensures closed { (i : ℕ) → self.new.len ≤ i → i < self.old.len → slice_index self.old.ends i ≤ at }
-        ensures innermost { 0 < self.new.len → at < slice_index self.old.ends (self.new.len - 1) }
-    {
-        while self.len > 0 && self.ends[self.len - 1] <= at {
-            self.len -= 1;
+            ends: ArrayVec::new(),
         }
     }
 
     // Goes on to position `at`, and opens its part unless it lies too deep.
-    pub fn enter(&mut self, nodes: &[Node], at: usize) -> bool
+    pub fn enter(&mut self, nodes: &[Node], at: usize) -> Result<(), ShapeFault>
         requires within { at < length nodes.now }
         requires laid { (q : ℕ) → q < at + 1 → Laid nodes.now q }
-        requires opens { Opens nodes.now at self.old.len self.old.ends }
-        ensures answer { Decides result (depth nodes.now at ≤ 64) }
-        ensures goes { result ≡ true → Opens nodes.now (at + 1) self.new.len self.new.ends }
+        requires opens { Opens nodes.now at self.old.ends.items }
+        ensures { MatchResult result (λ _. (depth nodes.now at ≤ 64) × Opens nodes.now (at + 1) self.new.ends.items) (λ f. (f ≡ Depth at) × (64 < depth nodes.now at)) }
     {
-        self.close(at);
-        if self.len >= DEEPEST {
-            return false;
+        // the parts that end at `at` or before it are the innermost ones
+        while self.ends.last().is_some_and(|end| *end <= at) {
+            self.ends.pop();
         }
-        self.ends[self.len] = at + nodes[at].size as usize;
-        self.len += 1;
-        true
+        self.ends
+            .try_push(end_of(nodes, at))
+            .map_err(|_| ShapeFault::Depth { at })
     }
 }

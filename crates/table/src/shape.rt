@@ -1,9 +1,11 @@
 // The check of a batch's shape: every node of the table in order, and the first faulty position reported.
 ghost use Rattle.std.specs.Prelude.{◌≡◌, ◌+◌, ◌<◌, ◌≤◌, length, Decides, MatchOption, MatchResult};
 ghost use Rattle.table.specs.Cases.{SmallestBatch};
-ghost use Rattle.table.specs.Shape.{refusal, Child, Follow, Elements, Listing, Laid, Placed, Worded, Formed, Refused, Settled, end_of};
+ghost use Rattle.table.specs.Kinds.{number_of};
+ghost use Rattle.table.specs.View.{past};
+ghost use Rattle.table.specs.Shape.{refusal, place_of, Child, Follow, Elements, Listing, Laid, Placed, Formed, Refused, Settled, node_at, end_of};
 
-use super::kinds::{Class, Kind, Node, ROWS, list_row_of, row_of};
+use super::kinds::{Class, Kind, Listed, Node};
 use super::open::OpenParts;
 
 // A batch has at most this many nodes.
@@ -21,147 +23,160 @@ pub enum ShapeFault {
 }
 
 impl ShapeFault {
-    // the number of the refusal
+    // the number by which C and jobs tell the refusal
     pub fn number(self) -> u8
         ensures { result ≡ refusal self }
     {
         match self {
             ShapeFault::Length => 1,
-            ShapeFault::Layout { at: _ } => 2,
-            ShapeFault::Word { at: _ } => 3,
-            ShapeFault::Depth { at: _ } => 4,
+            ShapeFault::Layout { .. } => 2,
+            ShapeFault::Word { .. } => 3,
+            ShapeFault::Depth { .. } => 4,
+        }
+    }
+
+    // the first faulty position, where the fault has one
+    pub fn at(self) -> Option<usize>
+        ensures { result ≡ place_of self }
+    {
+        match self {
+            ShapeFault::Length => None,
+            ShapeFault::Layout { at } | ShapeFault::Word { at } | ShapeFault::Depth { at } => Some(
+                at,
+            ),
         }
     }
 }
 
-// The position behind the child at `q`, if a node of that class stands there whose part ends by `end`.
-fn child_end(nodes: &[Node], class: Class, q: usize, end: usize) -> Option<usize>
-    requires { end ≤ length nodes.now }
-    ensures { MatchOption result (Child nodes.now end class q → ⊥) (λ x. Child nodes.now end class q × (x ≡ end_of nodes.now q)) }
-{
-    if q >= end {
-        return None;
-    }
-    let child = nodes[q];
-    let size = child.size as usize;
-    if size == 0 || size > end - q || !class.admits(child) {
-        return None;
-    }
-    Some(q + size)
-}
-
-// Whether children of these classes follow one another from `first` on, and the last ends at `end`.
-fn follow(nodes: &[Node], classes: &[Class], first: usize, end: usize) -> bool
-    requires { end ≤ length nodes.now }
-    ensures { Decides result (Follow nodes.now end classes.now first) }
-{
-    let mut q = first;
-    for class in classes {
-        let Some(next) = child_end(nodes, *class, q, end) else {
-            return false;
-        };
-        q = next;
-    }
-    q == end
-}
-
-// Whether at most `most` children of one class follow one another from `first` on, and the last ends at `end`.
-fn elements(nodes: &[Node], element: Class, most: usize, first: usize, end: usize) -> bool
-    requires { end ≤ length nodes.now }
-    ensures { Decides result (Elements nodes.now end element most first) }
-{
-    let mut q = first;
-    let mut count = 0;
-    while q < end {
-        let Some(next) = child_end(nodes, element, q, end) else {
-            return false;
-        };
-        q = next;
-        count += 1;
-    }
-    count <= most && q == end
-}
-
-// Whether the node at `p` has one of the 48 kinds, and the children that its kind allows fill its part.
-fn is_laid(nodes: &[Node], p: usize) -> bool
+// The position behind the part of the node at `p`.
+pub fn end_of(nodes: &[Node], p: usize) -> usize
     requires { p < length nodes.now }
+    ensures { result ≡ end_of nodes.now p }
+{
+    p + usize::from(nodes[p].size)
+}
+
+// The part of a table before a position.
+#[derive(Clone, Copy)]
+pub(super) struct Front<'a> {
+    pub nodes: &'a [Node],
+    pub end: usize,
+    pub ghost within: { end ≤ length nodes.now },
+}
+
+impl<'a> Front<'a> {
+    // The position behind the child at `q`, if a node of that class stands there whose part lies in front of the end.
+    fn child_end(self, class: Class, q: usize) -> Option<usize>
+        ensures { MatchOption result (Child self.entry.nodes.now self.entry.end class q → ⊥) (λ x. Child self.entry.nodes.now self.entry.end class q × (x ≡ end_of self.entry.nodes.now q)) }
+    {
+        if q >= self.end {
+            return None;
+        }
+        let next = end_of(self.nodes, q);
+        (q < next && next <= self.end && class.admits(self.nodes[q])).then_some(next)
+    }
+
+    // Whether children of these classes follow one another from `first` on, and the last ends at the end.
+    fn follow(self, classes: &[Class], first: usize) -> bool
+        ensures { Decides result (Follow self.entry.nodes.now self.entry.end classes.now first) }
+    {
+        classes
+            .iter()
+            .try_fold(first, |q, class| self.child_end(*class, q))
+            .is_some_and(|q| q == self.end)
+    }
+
+    // Whether at most `most` children of one class follow one another from `first` on, and the last ends at the end.
+    fn elements(self, element: Class, most: usize, first: usize) -> bool
+        ensures { Decides result (Elements self.entry.nodes.now self.entry.end element most first) }
+    {
+        let mut q = first;
+        for _ in 0..most {
+            if q == self.end {
+                return true;
+            }
+            let Some(next) = self.child_end(element, q) else {
+                return false;
+            };
+            q = next;
+        }
+        q == self.end
+    }
+
+    // Whether the elements that a List with that word may hold follow one another from `first` to the end.
+    fn is_list(self, word: u64, first: usize) -> bool
+        ensures { Decides result (Listing self.entry.nodes.now word first self.entry.end) }
+    {
+        let Ok(list) = Listed::try_from(word) else {
+            return false;
+        };
+        let row = list.row();
+        self.elements(row.element, row.most, first)
+    }
+
+    // The position behind the part at `q`, if `q` lies before the end.
+    pub(super) fn past(self, q: usize) -> usize
+        ensures { result ≡ past self.entry.nodes.now self.entry.end q }
+    {
+        if q < self.end {
+            end_of(self.nodes, q)
+        } else {
+            q
+        }
+    }
+}
+
+// Whether the children that nodes of its kind allow fill the part of the node at `p`.
+fn is_laid(nodes: &[Node], p: usize, kind: Kind) -> bool
+    requires within { p < length nodes.now }
+    requires kind { number_of kind ≡ (node_at nodes.now p).kind }
     ensures { Decides result (Laid nodes.now p) }
 {
-    let node = nodes[p];
-    let end = p + node.size as usize;
-    if node.kind == 0 || node.kind as usize > ROWS.len() || end > nodes.len() {
+    let end = end_of(nodes, p);
+    if end > nodes.len() {
         return false;
     }
-    let row = row_of(node.kind);
-    match row.kind {
-        Kind::List => is_list(nodes, node.word, p + 1, end),
-        _ => {
-            let classes = [row.first, row.second, row.third, row.fourth];
-            let count = row.count;
-            follow(nodes, &classes[0..count], p + 1, end)
-        }
+    let front = Front { nodes, end };
+    match kind {
+        Kind::List => front.is_list(nodes[p].word, p + 1),
+        _ => front.follow(kind.row().children, p + 1),
     }
 }
 
-// Whether the elements that a List with that word may hold follow one another from `first` to `end`.
-fn is_list(nodes: &[Node], word: u64, first: usize, end: usize) -> bool
-    requires { end ≤ length nodes.now }
-    ensures { Decides result (Listing nodes.now word first end) }
-{
-    if word == 0 || word > 7 {
-        return false;
-    }
-    let row = list_row_of(word);
-    elements(nodes, row.element, row.most, first, end)
-}
-
-// Whether position `p` is laid out as its kind allows; position 0 is a Program whose part is the whole table.
-fn is_placed(nodes: &[Node], p: usize) -> bool
+// The kind of the node at `p`, if it has one and is laid out as that kind allows; position 0 is a Program whose
+// part is the whole table.
+fn placed_kind(nodes: &[Node], p: usize) -> Option<Kind>
     requires { p < length nodes.now }
-    ensures { Decides result (Placed nodes.now p) }
+    ensures { MatchOption result (Placed nodes.now p → ⊥) (λ k. Placed nodes.now p × (number_of k ≡ (node_at nodes.now p).kind)) }
 {
-    let node = nodes[p];
-    let size = node.size as usize;
-    if p == 0 && (!node.is(Kind::Program) || size != nodes.len()) {
-        return false;
+    let kind = Kind::try_from(nodes[p].kind).ok()?;
+    if p == 0 && (kind != Kind::Program || end_of(nodes, p) != nodes.len()) {
+        return None;
     }
-    is_laid(nodes, p)
-}
-
-// Whether the word of a node is one that its kind allows.
-fn is_worded(node: Node) -> bool
-    requires { (1 ≤ node.kind) × (node.kind ≤ 48) }
-    ensures { Decides result (Worded node) }
-{
-    row_of(node.kind).word.allows(node.word)
+    is_laid(nodes, p, kind).then_some(kind)
 }
 
 // Checks the shape of a batch: every position in order, up to the first faulty one.
+#[tactic(auto, using(crate::proofs::Verdict::settled))]
 pub fn check_shape(nodes: &[Node]) -> Result<(), ShapeFault>
     ensures verdict { MatchResult result (λ _. Formed nodes.now) (λ f. Refused nodes.now f) }
     ensures settled { Settled nodes.now }
 {
-    if nodes.is_empty() || nodes.len() > MOST_NODES {
+    if !(1..=MOST_NODES).contains(&nodes.len()) {
         return Err(ShapeFault::Length);
     }
     let mut parts = OpenParts::new();
     for (at, node) in nodes.iter().enumerate() {
-        if !is_placed(nodes, at) {
-            return Err(ShapeFault::Layout { at });
-        }
-        if !is_worded(*node) {
+        let kind = placed_kind(nodes, at).ok_or(ShapeFault::Layout { at })?;
+        if !kind.row().word.allows(node.word) {
             return Err(ShapeFault::Word { at });
         }
-        if !parts.enter(nodes, at) {
-            return Err(ShapeFault::Depth { at });
-        }
+        parts.enter(nodes, at)?;
     }
     Ok(())
 }
 
 // What the definitions say of the smallest batch.
-pub fn smallest_batch() -> u8
+pub fn smallest_batch()
     ensures { SmallestBatch }
-{
-    0
-}
+{}

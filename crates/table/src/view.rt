@@ -2,12 +2,13 @@
 ghost use Rattle.std.specs.Prelude.{◌≡◌, ◌+◌, ◌<◌, ◌≤◌, true, List, ◌++◌, length, ◌≢◌};
 ghost use Rattle.table.specs.declared.kinds.Node.{Node};
 ghost use Rattle.table.specs.Shape.{Laid, Worded, node_at, end_of};
-ghost use Rattle.table.specs.View.{view, moved, named, Stand, past, head_of};
+ghost use Rattle.table.specs.View.{view, moved, named, Stand, head_of};
 ghost use Rattle.table.specs.Kinds.{row_of, number_of, fits};
 
 use self::Instruction::Evaluate;
 use self::View::Execute;
-use super::kinds::{Kind, Node, row_of};
+use super::kinds::{Kind, Node};
+use super::shape::{Front, end_of};
 
 #[derive(Clone, Copy)]
 pub enum BinaryOp {
@@ -84,7 +85,8 @@ pub enum View {
     Main { vars: usize, instructions: usize },
     EmptyMain,
     Execute(Instruction),
-    // no node of a known kind
+    // no node of a known kind: `view` of the specs is total, so that clauses name a view with no Some in front;
+    // `view_of` never gives it
     Nothing,
 }
 
@@ -96,18 +98,6 @@ struct Places {
     c: usize,
     d: usize,
     end: usize,
-}
-
-// The position behind the part at `q`, if `q` lies before `end`.
-fn past_part(nodes: &[Node], end: usize, q: usize) -> usize
-    requires { end ≤ length nodes.now }
-    ensures { result ≡ past nodes.now end q }
-{
-    if q < end {
-        q + nodes[q].size as usize
-    } else {
-        q
-    }
 }
 
 // The view of a node with that kind and word, and with its children at those places.
@@ -182,12 +172,14 @@ pub fn view_of(nodes: &[Node], p: usize) -> View
     ensures moves { (before behind : List Node) → view (before ++ (nodes.now ++ behind)) (length before + p) ≡ moved (length before) result }
 {
     let node = nodes[p];
-    let end = p + node.size as usize;
-    let b = past_part(nodes, end, p + 1);
-    let c = past_part(nodes, end, b);
-    let d = past_part(nodes, end, c);
+    let kind = Kind::try_from(node.kind).unwrap();
+    let end = end_of(nodes, p);
+    let front = Front { nodes, end };
+    let b = front.past(p + 1);
+    let c = front.past(b);
+    let d = front.past(c);
     head(
-        row_of(node.kind).kind,
+        kind,
         node.word,
         Places {
             a: p + 1,

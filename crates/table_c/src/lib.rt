@@ -1,11 +1,10 @@
 // The shape check as a function that C and Rust can call.
 #![tactic(auto)]
 
-ghost use Rattle.std.specs.Prelude.{◌≡◌};
-ghost use Rattle.table_c.specs.Told.{Told, place_of};
+ghost use Rattle.table_c.specs.Told.{Told};
 
 use table::kinds::Node;
-use table::shape::{ShapeFault, check_shape};
+use table::shape::check_shape;
 
 // The number of the refusal and the faulty position; both 0 where the batch is accepted.
 #[repr(C)]
@@ -15,6 +14,7 @@ pub struct Answer {
     pub at: usize,
 }
 
+// A fault that names no position is told as one at 0.
 #[unsafe(no_mangle)]
 pub extern "C" fn table_check_shape(nodes: &[Node]) -> Answer
     ensures { Told nodes.now result }
@@ -23,17 +23,7 @@ pub extern "C" fn table_check_shape(nodes: &[Node]) -> Answer
         Ok(_) => Answer { number: 0, at: 0 },
         Err(fault) => Answer {
             number: fault.number(),
-            at: position(fault),
+            at: fault.at().unwrap_or(0),
         },
-    }
-}
-
-// The position that a fault names, 0 where it names none.
-fn position(fault: ShapeFault) -> usize
-    ensures { result ≡ place_of fault }
-{
-    match fault {
-        ShapeFault::Length => 0,
-        ShapeFault::Layout { at } | ShapeFault::Word { at } | ShapeFault::Depth { at } => at,
     }
 }
