@@ -1,13 +1,10 @@
 -- Bits below those of the infinity stand for a finite float, and the others do not: 9223372036854775808 is the weight of the sign,
 -- 4503599627370496 that of the exponent's field, and 9218868437227405312 are the bits of the infinity.
-use Rattle.std.proofs.Common.{◌≡◌, ℕ, zero, suc, ◌/◌, ◌%◌, ◌<◌, ◌≤◌, Bool, true, false, cond, eqb, ltb, leb, Some, None, sym, refl, ◌∙◌, arith}
-use lib.Ieee.{nan_bits, binary64, Float, odd, of_fields, of_bits}
-use lib.Ieee.Bits.{nan_bits_above}
+use Rattle.std.proofs.Common.{◌≡◌, ℕ, zero, suc, ◌/◌, ◌%◌, ◌<◌, ◌≤◌, Bool, true, false, cond, eqb, leb, Some, None, sym, refl, arith}
+use lib.Ieee.{binary64, Float, odd, of_fields, of_bits}
+use Rattle.table.specs.Kinds.{fits}
+use Rattle.table.specs.declared.kinds.Word.TheVariants.{Float as FloatWord}
 use Rattle.values.specs.Numbers.{finite}
-
-pub no_nan : (w : ℕ) → w % 9223372036854775808 < 9218868437227405312 → nan_bits binary64 w ≡ false
-no_nan w h =
-    let e : ltb 9218868437227405312 (w % 9223372036854775808) ≡ false = grind arith in nan_bits_above binary64 w ∙ e
 
 odd_finite : (d : ℕ) (s : Bool) (q k l : ℕ) → finite (odd d s q k l) ≡ Some (odd d s q k l)
 unfolding odd
@@ -24,10 +21,17 @@ high_field : (s : Bool) (x t : ℕ) → x ≡ 2047 → finite (of_fields binary6
 unfolding of_fields
 high_field s x t h = rw h (elim (eqb t 0) as (λ b. finite (cond b (Float.inf s) Float.nan) ≡ None) [ true ↦ refl | false ↦ refl ])
 
-pub below : (w : ℕ) → w % 9223372036854775808 < 9218868437227405312 → Some (of_bits binary64 w) ≡ finite (of_bits binary64 w)
-unfolding of_bits
-below w h = sym (low_field (leb 9223372036854775808 w) (w % 9223372036854775808 / 4503599627370496) (w % 4503599627370496) (omega arith))
+pub low_bits : (w : ℕ) → fits FloatWord w ≡ true → w % 9223372036854775808 < 9218868437227405312
+low_bits w f = grind arith
 
-pub above : (w : ℕ) → 9218868437227405312 ≤ w % 9223372036854775808 → None ≡ finite (of_bits binary64 w)
+pub below : (w : ℕ) → fits FloatWord w ≡ true → Some (of_bits binary64 w) ≡ finite (of_bits binary64 w)
 unfolding of_bits
-above w h = sym (high_field (leb 9223372036854775808 w) (w % 9223372036854775808 / 4503599627370496) (w % 4503599627370496) (omega arith))
+below w f =
+    let h = low_bits w f in
+    sym (low_field (leb 9223372036854775808 w) (w % 9223372036854775808 / 4503599627370496) (w % 4503599627370496) (omega arith))
+
+pub above : (w : ℕ) → fits FloatWord w ≡ false → None ≡ finite (of_bits binary64 w)
+unfolding of_bits
+above w f =
+    let h : 9218868437227405312 ≤ w % 9223372036854775808 = grind arith in
+    sym (high_field (leb 9223372036854775808 w) (w % 9223372036854775808 / 4503599627370496) (w % 4503599627370496) (omega arith))

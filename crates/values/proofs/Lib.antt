@@ -1,3 +1,4 @@
+pub mod Orders
 pub mod Wraps
 pub mod Cuts
 pub mod Finite

@@ -1,10 +1,7 @@
 -- Comparisons beside a NaN.
-use Rattle.std.proofs.Common.{◌≡◌, ℕ, true, false, refl, arith}
+use Rattle.std.proofs.Common.{refl}
 use lib.Ieee.{nan, inf, fin, is_nan, lt, le, eq, ne}
 use Rattle.values.specs.Laws.{NanCompares}
-
-clash : {X : Type 0} → false ≡ true → X
-clash h = let z : ◌≡◌ {A = ℕ} 0 1 = cc in absurd (omega arith)
 
 pub nan_compares : NanCompares
 unfolding is_nan lt le eq ne
@@ -13,7 +10,7 @@ nan_compares nan (inf t) h = (refl, refl, refl, refl, refl, refl)
 nan_compares nan (fin t n d) h = (refl, refl, refl, refl, refl, refl)
 nan_compares (inf s) nan h = (refl, refl, refl, refl, refl, refl)
 nan_compares (fin s m e) nan h = (refl, refl, refl, refl, refl, refl)
-nan_compares (inf s) (inf t) h = clash h
-nan_compares (inf s) (fin t n d) h = clash h
-nan_compares (fin s m e) (inf t) h = clash h
-nan_compares (fin s m e) (fin t n d) h = clash h
+nan_compares (inf s) (inf t) h = cc
+nan_compares (inf s) (fin t n d) h = cc
+nan_compares (fin s m e) (inf t) h = cc
+nan_compares (fin s m e) (fin t n d) h = cc

@@ -1,8 +1,7 @@
--- A quotient and a remainder of ints, wrapped.
+-- A quotient of ints, wrapped.
 use Rattle.std.proofs.Common.{◌≡◌, ℕ, zero, suc, ◌-◌, ◌/◌, ◌%◌, ◌<◌, ◌≤◌, ℤ, pos, negsuc, neg_ℤ, sym, ap, mod-eq_of_lt, div-le_self, arith, w32, SFits, to_z, of_z}
-use lib.Signed.{mag, quot_z, rem_z, mag_rem}
+use lib.Signed.{mag, quot_z}
 use Rattle.std.specs.Int.{int_wrap}
-use Rattle.std.proofs.lemmas.Int.{int_wrap_fits}
 
 mag_neg : (n : ℕ) → mag (neg_ℤ (pos n)) ≤ n
 mag_neg zero = omega arith
@@ -23,9 +22,3 @@ by_bits (negsuc n) h =
 
 pub quotient_wraps : (x y : ℤ) → SFits w32 x → to_z w32 (of_z w32 (quot_z x y)) ≡ int_wrap w32 (quot_z x y)
 quotient_wraps x y f = let k = mag_quot x y in let h = f.sfits in by_bits (quot_z x y) (omega arith)
-
--- a remainder is an int already
-pub remainder_wraps : (x y : ℤ) → SFits w32 x → rem_z x y ≡ int_wrap w32 (rem_z x y)
-remainder_wraps x y f =
-    let g : SFits w32 (rem_z x y) = record { sfits = let k = mag_rem x y in let h = f.sfits in omega arith } in
-    sym (int_wrap_fits w32 (rem_z x y) g)

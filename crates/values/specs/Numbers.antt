@@ -17,6 +17,10 @@ same (pos a) (negsuc b) = false
 same (negsuc a) (pos b) = false
 same (negsuc a) (negsuc b) = a == b
 
+-- a number to divide by
+abbrev pub divisor : ℤ → Result ℤ Stop
+divisor y = cond (same y (pos 0)) (Err ZeroDivisor) (Ok y)
+
 -- The exact result of arithmetic on two ints. A quotient is cut toward zero, and a remainder has the sign of x.
 abbrev pub exact : BinaryOp → ℤ → ℤ → Result ℤ Stop
 exact Plus x y = Ok (x +ℤ y)

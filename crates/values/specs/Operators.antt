@@ -1,6 +1,8 @@
 -- What the operators give on values.
 use Rattle.std.specs.Prelude.{ℕ, Bool, true, false, not, ◌&&◌, ◌||◌, ℤ, neg_ℤ, Some, None, Ok, Err, Option, Result, ◌==◌, int_le, int_lt, Float as Double}
 use Rattle.std.specs.Bool.{beq}
+use Rattle.std.specs.Ordering.{partial_lt, partial_le, partial_gt, partial_ge}
+use Rattle.std.specs.declared.cmp.Ordering.{Ordering}
 use Rattle.std.specs.Float.{binary64}
 use Rattle.std.specs.Float.Ieee.{add, sub, mul, div, neg, lt, le, eq, ne, of_int}
 use Rattle.table.specs.declared.view.BinaryOp.{BinaryOp}
@@ -10,55 +12,71 @@ use Rattle.table.specs.declared.view.UnaryOp.TheVariants.{Minus as Negate, Not}
 use Rattle.values.specs.declared.value.Value.{Value}
 use Rattle.values.specs.declared.value.Value.TheVariants.{Null, Int, Float, Boolean, Record, Text}
 use Rattle.values.specs.declared.pairs.Pair.{Pair}
-use Rattle.values.specs.declared.pairs.Pair.TheVariants.{Ints, Floats, Booleans, References, Mixed}
+use Rattle.values.specs.declared.pairs.Pair.TheVariants.{Ints, Floats, Booleans, References}
 use Rattle.values.specs.declared.operators.Stop.{Stop}
 use Rattle.values.specs.declared.operators.Stop.TheVariants.{Untreated}
 use Rattle.values.specs.Numbers.{same, exact, kept}
 
 -- what a right operand is beside an int
-abbrev pub beside_int : ℤ → Value → Pair
-beside_int x (Int y) = Ints x y
-beside_int x (Float y) = Floats (of_int binary64 x) y
-beside_int x Null = Mixed
-beside_int x (Boolean b) = Mixed
-beside_int x (Record n) = Mixed
-beside_int x (Text n) = Mixed
+abbrev pub beside_int : ℤ → Value → Option Pair
+beside_int x (Int y) = Some (Ints x y)
+beside_int x (Float y) = Some (Floats (of_int binary64 x) y)
+beside_int x Null = None
+beside_int x (Boolean b) = None
+beside_int x (Record n) = None
+beside_int x (Text n) = None
 
 -- beside a float
-abbrev pub beside_float : Double → Value → Pair
-beside_float x (Int y) = Floats x (of_int binary64 y)
-beside_float x (Float y) = Floats x y
-beside_float x Null = Mixed
-beside_float x (Boolean b) = Mixed
-beside_float x (Record n) = Mixed
-beside_float x (Text n) = Mixed
+abbrev pub beside_float : Double → Value → Option Pair
+beside_float x (Int y) = Some (Floats x (of_int binary64 y))
+beside_float x (Float y) = Some (Floats x y)
+beside_float x Null = None
+beside_float x (Boolean b) = None
+beside_float x (Record n) = None
+beside_float x (Text n) = None
 
 -- beside a boolean
-abbrev pub beside_boolean : Bool → Value → Pair
-beside_boolean x (Boolean y) = Booleans x y
-beside_boolean x Null = Mixed
-beside_boolean x (Int y) = Mixed
-beside_boolean x (Float y) = Mixed
-beside_boolean x (Record n) = Mixed
-beside_boolean x (Text n) = Mixed
+abbrev pub beside_boolean : Bool → Value → Option Pair
+beside_boolean x (Boolean y) = Some (Booleans x y)
+beside_boolean x Null = None
+beside_boolean x (Int y) = None
+beside_boolean x (Float y) = None
+beside_boolean x (Record n) = None
+beside_boolean x (Text n) = None
 
 -- beside null or a record
-abbrev pub beside_reference : Option ℕ → Value → Pair
-beside_reference x Null = References x None
-beside_reference x (Record n) = References x (Some n)
-beside_reference x (Int y) = Mixed
-beside_reference x (Float y) = Mixed
-beside_reference x (Boolean b) = Mixed
-beside_reference x (Text n) = Mixed
+abbrev pub beside_reference : Option ℕ → Value → Option Pair
+beside_reference x Null = Some (References x None)
+beside_reference x (Record n) = Some (References x (Some n))
+beside_reference x (Int y) = None
+beside_reference x (Float y) = None
+beside_reference x (Boolean b) = None
+beside_reference x (Text n) = None
 
--- What two operands are together: an int beside a float becomes the equal float.
-abbrev pub pair_of : Value → Value → Pair
+-- What two operands are together, if an operator can treat them: an int beside a float becomes the equal float.
+abbrev pub pair_of : Value → Value → Option Pair
 pair_of (Int x) v = beside_int x v
 pair_of (Float x) v = beside_float x v
 pair_of (Boolean x) v = beside_boolean x v
 pair_of Null v = beside_reference None v
 pair_of (Record n) v = beside_reference (Some n) v
-pair_of (Text n) v = Mixed
+pair_of (Text n) v = None
+
+-- A comparison by an equality and an order. The other operators do not compare.
+abbrev pub comparison_result : {T : Type 0} → (T → T → Bool) → (T → T → Option Ordering) → BinaryOp → T → T → Result Value Stop
+comparison_result equal order Equals x y = Ok (Boolean (equal x y))
+comparison_result equal order NotEquals x y = Ok (Boolean (not (equal x y)))
+comparison_result equal order Greater x y = Ok (Boolean (partial_gt order x y))
+comparison_result equal order GreaterOrEquals x y = Ok (Boolean (partial_ge order x y))
+comparison_result equal order Lower x y = Ok (Boolean (partial_lt order x y))
+comparison_result equal order LowerOrEquals x y = Ok (Boolean (partial_le order x y))
+comparison_result equal order And x y = Err Untreated
+comparison_result equal order Or x y = Err Untreated
+comparison_result equal order Plus x y = Err Untreated
+comparison_result equal order Minus x y = Err Untreated
+comparison_result equal order Multiply x y = Err Untreated
+comparison_result equal order Divide x y = Err Untreated
+comparison_result equal order Modulo x y = Err Untreated
 
 -- On ints: arithmetic, and the order of the integers.
 abbrev pub int_result : BinaryOp → ℤ → ℤ → Result Value Stop
@@ -137,11 +155,15 @@ pair_result o (Ints x y) = int_result o x y
 pair_result o (Floats x y) = float_result o x y
 pair_result o (Booleans x y) = boolean_result o x y
 pair_result o (References x y) = equality_result o (one_reference x y)
-pair_result o Mixed = Err Untreated
+
+-- the same, where they may not go together
+abbrev pub operands_result : BinaryOp → Option Pair → Result Value Stop
+operands_result o (Some p) = pair_result o p
+operands_result o None = Err Untreated
 
 -- What a binary operator gives.
 abbrev pub binary_result : BinaryOp → Value → Value → Result Value Stop
-binary_result o x y = pair_result o (pair_of x y)
+binary_result o x y = operands_result o (pair_of x y)
 
 -- the negation of a number
 abbrev pub negated : Value → Result Value Stop

@@ -2,6 +2,7 @@
 ghost use Rattle.std.specs.Prelude.{◌≡◌};
 ghost use Rattle.values.specs.Operators.{float_result};
 
+use super::comparisons::on_comparison;
 use super::operators::Stop;
 use super::value::Value;
 use table::view::BinaryOp;
@@ -14,12 +15,6 @@ pub fn on_floats(op: BinaryOp, x: f64, y: f64) -> Result<Value, Stop>
         BinaryOp::Minus => Ok(Value::Float(x - y)),
         BinaryOp::Multiply => Ok(Value::Float(x * y)),
         BinaryOp::Divide => Ok(Value::Float(x / y)),
-        BinaryOp::Equals => Ok(Value::Boolean(x == y)),
-        BinaryOp::NotEquals => Ok(Value::Boolean(x != y)),
-        BinaryOp::Greater => Ok(Value::Boolean(x > y)),
-        BinaryOp::GreaterOrEquals => Ok(Value::Boolean(x >= y)),
-        BinaryOp::Lower => Ok(Value::Boolean(x < y)),
-        BinaryOp::LowerOrEquals => Ok(Value::Boolean(x <= y)),
-        BinaryOp::Modulo | BinaryOp::And | BinaryOp::Or => Err(Stop::Untreated),
+        _ => on_comparison(op, &x, &y),
     }
 }

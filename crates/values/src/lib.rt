@@ -3,6 +3,7 @@
 
 pub mod cases;
 pub mod casts;
+mod comparisons;
 mod floats;
 mod ints;
 pub mod operators;

@@ -1,7 +1,8 @@
 // The operators on values.
 ghost use Rattle.std.specs.Prelude.{◌≡◌};
-ghost use Rattle.values.specs.Operators.{boolean_result, equality_result, binary_result, unary_result};
+ghost use Rattle.values.specs.Operators.{boolean_result, binary_result, unary_result};
 
+use super::comparisons::on_equality;
 use super::floats::on_floats;
 use super::ints::on_ints;
 use super::pairs::{Pair, pair_of};
@@ -19,12 +20,11 @@ pub enum Stop {
 pub fn binary(op: BinaryOp, left: Value, right: Value) -> Result<Value, Stop>
     ensures { result ≡ binary_result op left right }
 {
-    match pair_of(left, right) {
+    match pair_of(left, right).ok_or(Stop::Untreated)? {
         Pair::Ints(x, y) => on_ints(op, x, y),
         Pair::Floats(x, y) => on_floats(op, x, y),
         Pair::Booleans(x, y) => on_booleans(op, x, y),
         Pair::References(x, y) => on_equality(op, x == y),
-        Pair::Mixed => Err(Stop::Untreated),
     }
 }
 
@@ -46,16 +46,5 @@ fn on_booleans(op: BinaryOp, x: bool, y: bool) -> Result<Value, Stop>
         BinaryOp::And => Ok(Value::Boolean(x && y)),
         BinaryOp::Or => Ok(Value::Boolean(x || y)),
         _ => on_equality(op, x == y),
-    }
-}
-
-// For operands that are only equal or not.
-fn on_equality(op: BinaryOp, equal: bool) -> Result<Value, Stop>
-    ensures { result ≡ equality_result op equal }
-{
-    match op {
-        BinaryOp::Equals => Ok(Value::Boolean(equal)),
-        BinaryOp::NotEquals => Ok(Value::Boolean(!equal)),
-        _ => Err(Stop::Untreated),
     }
 }

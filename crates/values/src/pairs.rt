@@ -11,14 +11,13 @@ pub enum Pair {
     Booleans(bool, bool),
     // null, or a record by its number
     References(Option<u16>, Option<u16>),
-    // anything else
-    Mixed,
 }
 
-pub fn pair_of(left: Value, right: Value) -> Pair
+// None where no operator treats the two together.
+pub fn pair_of(left: Value, right: Value) -> Option<Pair>
     ensures { result ≡ pair_of left right }
 {
-    match (left, right) {
+    let pair = match (left, right) {
         (Value::Int(x), Value::Int(y)) => Pair::Ints(x, y),
         (Value::Int(x), Value::Float(y)) => Pair::Floats(f64::from(x), y),
         (Value::Float(x), Value::Int(y)) => Pair::Floats(x, f64::from(y)),
@@ -28,6 +27,7 @@ pub fn pair_of(left: Value, right: Value) -> Pair
         (Value::Null, Value::Record(y)) => Pair::References(None, Some(y)),
         (Value::Record(x), Value::Null) => Pair::References(Some(x), None),
         (Value::Record(x), Value::Record(y)) => Pair::References(Some(x), Some(y)),
-        _ => Pair::Mixed,
-    }
+        _ => return None,
+    };
+    Some(pair)
 }

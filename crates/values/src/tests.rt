@@ -11,15 +11,15 @@ const HIGHEST: Value = Value::Int(i32::MAX);
 
 const ZERO: Value = Value::Float(0.0);
 
-fn int(res: Result<Value, Stop>) -> Option<i32> {
-    match res {
+fn int(answer: Result<Value, Stop>) -> Option<i32> {
+    match answer {
         Ok(Value::Int(x)) => Some(x),
         _ => None,
     }
 }
 
-fn boolean(res: Result<Value, Stop>) -> Option<bool> {
-    match res {
+fn boolean(answer: Result<Value, Stop>) -> Option<bool> {
+    match answer {
         Ok(Value::Boolean(x)) => Some(x),
         _ => None,
     }
