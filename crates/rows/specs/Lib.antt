@@ -1,4 +1,3 @@
 pub mod Tiles
 pub mod Meaning
-pub mod Found
-pub mod Cuts
+pub mod Counted

@@ -2,21 +2,16 @@
 ghost use Rattle.std.specs.Prelude.{◌≡◌, ◌+◌, ◌≤◌, true, vec_len, vec_capacity};
 ghost use Rattle.rows.specs.Tiles.{tiles};
 
+use store::head::Head;
 use values::value::Value;
 
-// A record: its class, and where its cells are.
-#[derive(Clone, Copy)]
-pub struct Head {
-    pub class: u16,
-    pub first: u16,
-    pub count: u16,
-}
-
-// The memory is reserved when the store is made, so no later call wants any.
+// The memory is reserved when the store is made, so no later call wants any. Its facts are ghost fields and not the
+// invariant of a `Model`: the laws of `Store` hold of each value, and `Records` alone does not say that it is whole.
 #[derive(Drop)]
 pub struct Rows<const RECORDS: usize, const CELLS: usize> {
-    pub(crate) heads: Vec<Head>,
+    pub(crate) heads: Vec<Head<u16>>,
     pub(crate) cells: Vec<Value>,
+    // what is left, beside what the Vecs hold: these are what the meaning of a store counts
     pub(crate) records_left: usize,
     pub(crate) cells_left: usize,
     ghost least: { 1 ≤ RECORDS },

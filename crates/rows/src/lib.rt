@@ -3,4 +3,3 @@
 
 pub mod held;
 pub mod rows;
-pub mod stores;

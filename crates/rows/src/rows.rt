@@ -1,22 +1,24 @@
 // The operations of a store of rows.
-ghost use Rattle.std.specs.Prelude.{◌≡◌, ◌+◌, ◌<◌, ◌≤◌, ◌⊎◌, ◌++◌, replicate, is_some, if◌then◌else◌, vec_len, vec_capacity, MatchOption};
+ghost use Rattle.std.specs.Prelude.{◌≡◌, ◌+◌, ◌≤◌, ◌++◌, replicate, None, vec_len, vec_capacity, MatchOption};
 ghost use Rattle.values.specs.declared.value.Value.TheVariants.{Null};
-ghost use Rattle.store.specs.Model.{Made, cleared, room, with_record, class_at, cell_at, with_cell};
-ghost use Rattle.rows.specs.Meaning.{meaning, Stands};
+ghost use Rattle.store.specs.Model.{Made, cell_at};
+ghost use Rattle.rows.specs.Meaning.{meaning, Lies};
+ghost use Rattle.rows.specs.Counted.{records_counted, cells_counted};
 
-use super::held::{Head, Rows};
+use super::held::Rows;
 use std::alloc::Global;
-use store::made::NotMade;
+use std::mem;
+use store::head::{Head, entry_of};
+use store::made::{NotMade, check_sizes};
+use store::traits::Store;
 use values::value::Value;
 
 impl<const RECORDS: usize, const CELLS: usize> Rows<RECORDS, CELLS> {
     // An empty store, with all its memory.
-    pub fn new(heap: Global) -> Result<Rows<RECORDS, CELLS>, NotMade>
+    pub fn new(heap: Global) -> Result<Self, NotMade>
         ensures { Made meaning RECORDS CELLS result }
     {
-        if RECORDS < 1 || RECORDS > 1000 || CELLS > 2000 {
-            return Err(NotMade::Sizes);
-        }
+        check_sizes(RECORDS, CELLS)?;
         let heads = Vec::with_capacity(heap, RECORDS)?;
         let cells = Vec::with_capacity(heap, CELLS)?;
         Ok(Rows {
@@ -27,93 +29,78 @@ impl<const RECORDS: usize, const CELLS: usize> Rows<RECORDS, CELLS> {
         })
     }
 
-    // Forgets all records; so many records and cells are left then.
-    pub(crate) fn refill(&mut self, records: usize, cells: usize)
-        requires all { records ≡ RECORDS }
-        requires whole { cells ≡ CELLS }
-        ensures { meaning self.new ≡ cleared RECORDS CELLS }
+    // Where a cell is in the sequence of all cells; none if there is no such record or cell.
+    fn place_of(&self, record: u16, cell: usize) -> Option<usize>
+        ensures { MatchOption result (cell_at (meaning self.now) «record» cell ≡ None) (λ p. Lies self.now «record» cell p) }
     {
+        let head = entry_of(&self.heads, record)?;
+        (cell < usize::from(head.count)).then(|| usize::from(head.first) + cell)
+    }
+}
+
+impl<const RECORDS: usize, const CELLS: usize> Store for Rows<RECORDS, CELLS> {
+    const R: usize = RECORDS;
+
+    const C: usize = CELLS;
+
+    ghost R = { RECORDS };
+
+    ghost C = { CELLS };
+
+    ghost model = { meaning };
+
+    ghost sizes = { λ s. (s.least, s.most, s.widest) };
+
+    ghost records = { λ s. records_counted s };
+
+    ghost cells = { λ s. cells_counted s };
+
+    fn clear(&mut self) {
         self.heads.clear();
         self.cells.clear();
-        self.records_left = records;
-        self.cells_left = cells;
+        self.records_left = Self::R;
+        self.cells_left = Self::C;
     }
 
-    // Adds a record with `count` nulls, if there is room.
-    pub(crate) fn add(&mut self, class: u16, count: usize) -> bool
-        ensures told { result ≡ room (meaning self.old) count }
-        ensures after { meaning self.new ≡ (if result then with_record (meaning self.old) class count else meaning self.old) }
-    {
-        if self.records_left == 0 || self.cells_left < count {
-            return false;
+    fn create(&mut self, class: u16, cells: usize) -> Option<u16> {
+        if self.records_left == 0 || self.cells_left < cells {
+            return None;
         }
         let first = self.cells.len() as u16;
         self.heads.push_reserved(Head {
             class,
             first,
-            count: count as u16,
+            count: cells as u16,
         });
-        add_nulls(&mut self.cells, count);
+        add_nulls(&mut self.cells, cells);
         self.records_left -= 1;
-        self.cells_left -= count;
-        true
+        self.cells_left -= cells;
+        Some((Self::R - self.records_left) as u16)
     }
 
-    // Where the cells of a record are.
-    fn head_of(&self, record: u16) -> Option<Head>
-        ensures { MatchOption result ((«record» ≡ 0) ⊎ (vec_len self.now.heads < «record»)) (λ h. Stands self.now «record» h) }
-    {
-        if record == 0 || record as usize > self.heads.len() {
-            return None;
-        }
-        Some(self.heads[record as usize - 1])
+    fn class_of(&self, record: u16) -> Option<u16> {
+        entry_of(&self.heads, record).map(|head| head.class)
     }
 
-    pub(crate) fn class_at(&self, record: u16) -> Option<u16>
-        ensures { result ≡ class_at (meaning self.now) «record» }
-    {
-        match self.head_of(record) {
-            Some(head) => Some(head.class),
-            None => None,
-        }
+    fn read(&self, record: u16, cell: usize) -> Option<Value> {
+        Some(self.cells[self.place_of(record, cell)?])
     }
 
-    pub(crate) fn value_at(&self, record: u16, cell: usize) -> Option<Value>
-        ensures { result ≡ cell_at (meaning self.now) «record» cell }
-    {
-        let Some(head) = self.head_of(record) else {
-            return None;
-        };
-        if cell >= head.count as usize {
-            return None;
-        }
-        Some(self.cells[head.first as usize + cell])
-    }
-
-    // Writes one cell, and says whether it is there.
-    pub(crate) fn put(&mut self, record: u16, cell: usize, value: Value) -> bool
-        ensures told { result ≡ is_some (cell_at (meaning self.old) «record» cell) }
-        ensures after { meaning self.new ≡ with_cell (meaning self.old) «record» cell value }
-    {
-        let Some(head) = self.head_of(record) else {
-            return false;
-        };
-        if cell >= head.count as usize {
-            return false;
-        }
-        self.cells[head.first as usize + cell] = value;
-        true
+    fn write(&mut self, record: u16, cell: usize, value: Value) -> Option<Value> {
+        let place = self.place_of(record, cell)?;
+        Some(mem::replace(&mut self.cells[place], value))
     }
 }
 
-// Appends `k` nulls.
-fn add_nulls(cells: &mut Vec<Value>, k: usize)
-    requires { vec_len cells.old + k ≤ vec_capacity cells.old }
-    ensures items { cells.new.items ≡ cells.old.items ++ replicate k Null }
-    ensures len { vec_len cells.new ≡ vec_len cells.old + k }
+// Appends `count` nulls. A loop, since with `resize_with` a create takes half as long again, and no operation of a store
+// may be more than a tenth slower than with the older form (bench/stores).
+fn add_nulls(cells: &mut Vec<Value>, count: usize)
+    requires { vec_len cells.old + count ≤ vec_capacity cells.old }
+    ensures items { cells.new.items ≡ cells.old.items ++ replicate count Null }
+    ensures len { vec_len cells.new ≡ vec_len cells.old + count }
     ensures cap { vec_capacity cells.new ≡ vec_capacity cells.old }
 {
-    for n in 0..k {
+    for _ in 0..count {
         cells.push_reserved(Value::Null);
     }
 }

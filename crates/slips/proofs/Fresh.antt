@@ -2,9 +2,9 @@
 use Rattle.std.proofs.Common.{◌≡◌, ℕ, zero, suc, ◌+◌, ◌<◌, ◌≤◌, true, not, eqb, ltb, List, [], length, refl, ap, ◌∙◌, arith}
 use Rattle.std.proofs.lemmas.Bool.{and_from, lt-ltb, ne_eqb, not_from_false}
 use Rattle.slips.specs.declared.slot.Slot.{Slot}
-use Rattle.slips.specs.declared.slot.Head.{Head}
+use Rattle.store.specs.declared.head.Head.{Head}
 use Rattle.slips.specs.Chains.{is_distinct, slot, chain, within, linked, InOrder}
-use Rattle.slips.specs.Passing.{outside}
+use Rattle.slips.proofs.Passing.{outside}
 
 module _ (ss : List Slot) (o : InOrder ss) where
   fresh_within : (n i : ℕ) → i + n ≤ length ss → within ss (chain ss n i) ≡ true
@@ -28,5 +28,5 @@ module _ (ss : List Slot) (o : InOrder ss) where
   pub fresh_linked : linked ss [] 0 (length ss) ≡ true
   fresh_linked = and_from (is_distinct (chain ss (length ss) 0)) (within ss (chain ss (length ss) 0)) (fresh_distinct (length ss) 0 (omega arith)) (fresh_within (length ss) 0 (omega arith))
 
-pub fresh_empty : (ts ss : List Slot) (hs : List Head) (n : ℕ) → InOrder ss → ts ≡ ss → hs ≡ [] → n ≡ length ss → linked ts hs 0 n ≡ true
+pub fresh_empty : (ts ss : List Slot) (hs : List (Head ℕ)) (n : ℕ) → InOrder ss → ts ≡ ss → hs ≡ [] → n ≡ length ss → linked ts hs 0 n ≡ true
 fresh_empty ts ss hs n o e f l = ap (λ us. linked us hs 0 n) e ∙ ap (λ gs. linked ss gs 0 n) f ∙ ap (linked ss [] 0) l ∙ fresh_linked ss o

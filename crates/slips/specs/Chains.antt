@@ -4,8 +4,9 @@ use Rattle.std.specs.List.{slice_get, list_all}
 use Rattle.values.specs.declared.value.Value.{Value}
 use Rattle.values.specs.declared.value.Value.TheVariants.{Null}
 use Rattle.store.specs.Model.{Rec, Records}
+use Rattle.store.specs.Numbers.{by_number}
 use Rattle.slips.specs.declared.slot.Slot.{Slot}
-use Rattle.slips.specs.declared.slot.Head.{Head}
+use Rattle.store.specs.declared.head.Head.{Head}
 
 abbrev pub no_slot : Slot
 no_slot = record { value = Null; next = 0 }
@@ -53,39 +54,34 @@ is_distinct [] = true
 is_distinct (x ∷ xs) = list_all (λ y. not (x == y)) xs && is_distinct xs
 
 -- the slots of all records
-abbrev pub used : List Slot → List Head → List ℕ
+abbrev pub used : List Slot → List (Head ℕ) → List ℕ
 used ss [] = []
 used ss (h ∷ hs) = chain ss h.count h.first ++ used ss hs
 
 -- the slots of all records, and then those of the free chain
-abbrev pub every : List Slot → List Head → ℕ → ℕ → List ℕ
+abbrev pub every : List Slot → List (Head ℕ) → ℕ → ℕ → List ℕ
 every ss hs free space = used ss hs ++ chain ss space free
 
 -- whether the chains of the records and the free chain are there and meet nowhere
-abbrev pub linked : List Slot → List Head → ℕ → ℕ → Bool
+abbrev pub linked : List Slot → List (Head ℕ) → ℕ → ℕ → Bool
 linked ss hs free space = is_distinct (every ss hs free space) && within ss (every ss hs free space)
 
 -- how many cells the records have
-abbrev pub counts : List Head → ℕ
+abbrev pub counts : List (Head ℕ) → ℕ
 counts [] = 0
 counts (h ∷ hs) = h.count + counts hs
 
-abbrev pub rec_of : List Slot → Head → Rec
+abbrev pub rec_of : List Slot → Head ℕ → Rec
 rec_of ss h = record { class = h.class; cells = cells_of ss h.count h.first }
 
 -- what slots and heads mean, with that many records and cells left
-abbrev pub model_of : List Slot → List Head → ℕ → ℕ → Records
+abbrev pub model_of : List Slot → List (Head ℕ) → ℕ → ℕ → Records
 model_of ss hs spare space = record { records = map (rec_of ss) hs; records_left = spare; cells_left = space }
 
--- the head of a record by its number, from 1
-abbrev pub head_at : List Head → ℕ → Option Head
-head_at hs zero = None
-head_at hs (suc i) = slice_get hs i
-
-abbrev pub slot_in : List Slot → Option Head → ℕ → Option ℕ
+abbrev pub slot_in : List Slot → Option (Head ℕ) → ℕ → Option ℕ
 slot_in ss None j = None
 slot_in ss (Some h) j = slice_get (chain ss h.count h.first) j
 
 -- the slot of a cell of a record
-abbrev pub slot_at : List Slot → List Head → ℕ → ℕ → Option ℕ
-slot_at ss hs r j = slot_in ss (head_at hs r) j
+abbrev pub slot_at : List Slot → List (Head ℕ) → ℕ → ℕ → Option ℕ
+slot_at ss hs r j = slot_in ss (by_number hs r) j

@@ -5,4 +5,4 @@ use Rattle.slips.specs.declared.slips.Slips.{Slips}
 use Rattle.slips.specs.Chains.{model_of}
 
 abbrev pub slips_model : {r c : ℕ} → Slips r c → Records
-slips_model s = model_of (vec_items s.slots) (vec_items s.heads) s.spare s.space
+slips_model s = model_of (vec_items s.slots) (vec_items s.heads) s.records_left s.cells_left

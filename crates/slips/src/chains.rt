@@ -1,4 +1,4 @@
-// Walks along chains of slots.
+// Walks along chains of slots. Slots are linked by index and not by `Box`, since a store's memory is fixed when it is made.
 ghost use Rattle.std.specs.Prelude.{◌≡◌, true};
 ghost use Rattle.slips.specs.Chains.{after, chain, within, nulled, InOrder};
 
@@ -35,7 +35,7 @@ pub fn blank(slots: &mut [Slot], first: usize, count: usize) -> usize
 pub fn relink(slots: &mut [Slot])
     ensures { InOrder slots.new }
 {
-    for i in 0..slots.len() {
-        slots[i].next = i + 1;
+    for (i, slot) in slots.iter_mut().enumerate() {
+        slot.next = i + 1;
     }
 }

@@ -5,4 +5,3 @@ mod chains;
 mod operations;
 pub mod slips;
 mod slot;
-pub mod stores;

@@ -1,14 +1,18 @@
 // The operations of a store of slips.
-ghost use Rattle.std.specs.Prelude.{◌≡◌, is_some, if◌then◌else◌};
-ghost use Rattle.store.specs.Model.{Made, cleared, room, with_record, class_at, cell_at, with_cell};
-ghost use Rattle.slips.specs.Chains.{head_at, slot_at};
+ghost use Rattle.std.specs.Prelude.{◌≡◌, ◌<◌, vec_len, IfSome};
+ghost use Rattle.store.specs.Model.{Made};
+ghost use Rattle.slips.specs.Chains.{slot_at};
+ghost use Rattle.slips.specs.Counted.{sizes_bounded, records_whole, cells_whole};
 ghost use Rattle.slips.specs.SlipsModel.{slips_model};
 
 use crate::chains::{blank, follow, relink};
 use crate::slips::Slips;
-use crate::slot::{Head, Slot};
+use crate::slot::Slot;
 use std::alloc::Global;
-use store::made::NotMade;
+use std::mem;
+use store::head::{Head, entry_of};
+use store::made::{NotMade, check_sizes};
+use store::traits::Store;
 use values::value::Value;
 
 impl<const RECORDS: usize, const CELLS: usize> Slips<RECORDS, CELLS> {
@@ -16,9 +20,7 @@ impl<const RECORDS: usize, const CELLS: usize> Slips<RECORDS, CELLS> {
     pub fn new(heap: Global) -> Result<Self, NotMade>
         ensures { Made slips_model RECORDS CELLS result }
     {
-        if RECORDS < 1 || RECORDS > 1000 || CELLS > 2000 {
-            return Err(NotMade::Sizes);
-        }
+        check_sizes(RECORDS, CELLS)?;
         let heads = Vec::with_capacity(heap, RECORDS)?;
         let mut slots = vec![in heap; Slot {
             value: Value::Null,
@@ -29,52 +31,53 @@ impl<const RECORDS: usize, const CELLS: usize> Slips<RECORDS, CELLS> {
             heads,
             slots,
             free: 0,
-            spare: RECORDS,
-            space: CELLS,
+            records_left: RECORDS,
+            cells_left: CELLS,
         })
     }
 
-    // The head of a record; none if there is no such record.
-    fn head(&self, record: u16) -> Option<Head>
-        ensures { result ≡ head_at self.now.heads.items «record» }
-    {
-        if record == 0 || self.heads.len() < record as usize {
-            return None;
-        }
-        Some(self.heads[record as usize - 1])
-    }
-
     // The slot of a cell; none if there is no such record or cell.
-    fn find(&self, record: u16, cell: usize) -> Option<usize>
-        ensures { result ≡ slot_at self.now.slots.items self.now.heads.items «record» cell }
+    fn place_of(&self, record: u16, cell: usize) -> Option<usize>
+        ensures is { result ≡ slot_at self.now.slots.items self.now.heads.items «record» cell }
+        ensures there { IfSome result (λ at. at < vec_len self.now.slots) }
     {
-        let head = self.head(record)?;
+        let head = entry_of(&self.heads, record)?;
         if head.count <= cell {
             return None;
         }
         Some(follow(&self.slots, head.first, cell))
     }
+}
 
-    // Forgets all records; so many records and cells are left then.
-    pub(crate) fn refill(&mut self, records: usize, cells: usize)
-        requires all { records ≡ RECORDS }
-        requires whole { cells ≡ CELLS }
-        ensures { slips_model self.new ≡ cleared RECORDS CELLS }
-    {
+impl<const RECORDS: usize, const CELLS: usize> Store for Slips<RECORDS, CELLS> {
+    const R: usize = RECORDS;
+
+    const C: usize = CELLS;
+
+    ghost R = { RECORDS };
+
+    ghost C = { CELLS };
+
+    ghost model = { slips_model };
+
+    ghost sizes = { λ s. sizes_bounded s };
+
+    ghost records = { λ s. records_whole s };
+
+    ghost cells = { λ s. cells_whole s };
+
+    fn clear(&mut self) {
         relink(&mut self.slots);
         self.heads.clear();
         self.free = 0;
-        self.spare = records;
-        self.space = cells;
+        self.records_left = Self::R;
+        self.cells_left = Self::C;
     }
 
-    // Adds a record with `cells` nulls, if there is room: the front of the free chain becomes its chain.
-    pub(crate) fn add(&mut self, class: u16, cells: usize) -> bool
-        ensures told { result ≡ room (slips_model self.old) cells }
-        ensures after { slips_model self.new ≡ (if result then with_record (slips_model self.old) class cells else slips_model self.old) }
-    {
-        if self.spare == 0 || self.space < cells {
-            return false;
+    // The front of the free chain becomes the chain of the new record.
+    fn create(&mut self, class: u16, cells: usize) -> Option<u16> {
+        if self.records_left == 0 || self.cells_left < cells {
+            return None;
         }
         let first = self.free;
         self.free = blank(&mut self.slots, first, cells);
@@ -83,34 +86,21 @@ impl<const RECORDS: usize, const CELLS: usize> Slips<RECORDS, CELLS> {
             first,
             count: cells,
         });
-        self.spare -= 1;
-        self.space -= cells;
-        true
+        self.records_left -= 1;
+        self.cells_left -= cells;
+        Some((Self::R - self.records_left) as u16)
     }
 
-    pub(crate) fn class_at(&self, record: u16) -> Option<u16>
-        ensures { result ≡ class_at (slips_model self.now) «record» }
-    {
-        let head = self.head(record)?;
-        Some(head.class)
+    fn class_of(&self, record: u16) -> Option<u16> {
+        entry_of(&self.heads, record).map(|head| head.class)
     }
 
-    pub(crate) fn value_at(&self, record: u16, cell: usize) -> Option<Value>
-        ensures { result ≡ cell_at (slips_model self.now) «record» cell }
-    {
-        let at = self.find(record, cell)?;
-        Some(self.slots[at].value)
+    fn read(&self, record: u16, cell: usize) -> Option<Value> {
+        Some(self.slots[self.place_of(record, cell)?].value)
     }
 
-    // Writes one cell, and says whether it is there.
-    pub(crate) fn put(&mut self, record: u16, cell: usize, value: Value) -> bool
-        ensures told { result ≡ is_some (cell_at (slips_model self.old) «record» cell) }
-        ensures after { slips_model self.new ≡ with_cell (slips_model self.old) «record» cell value }
-    {
-        let Some(at) = self.find(record, cell) else {
-            return false;
-        };
-        self.slots[at].value = value;
-        true
+    fn write(&mut self, record: u16, cell: usize, value: Value) -> Option<Value> {
+        let at = self.place_of(record, cell)?;
+        Some(mem::replace(&mut self.slots[at].value, value))
     }
 }

@@ -7,11 +7,3 @@ pub struct Slot {
     pub value: Value,
     pub next: usize,
 }
-
-// A record: its cells are the chain of `count` slots from `first` on.
-#[derive(Clone, Copy)]
-pub struct Head {
-    pub class: u16,
-    pub first: usize,
-    pub count: usize,
-}

@@ -1,3 +1,2 @@
 pub mod Absent
 pub mod Balanced
-pub mod Sizes

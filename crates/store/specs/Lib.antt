@@ -1,2 +1,4 @@
 pub mod Model
 pub mod History
+pub mod Texts
+pub mod Numbers

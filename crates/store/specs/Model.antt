@@ -3,6 +3,7 @@ use Rattle.std.specs.Prelude.{◌≡◌, ℕ, zero, suc, ◌+◌, ◌-◌, Bool,
 use Rattle.std.specs.List.{slice_get}
 use Rattle.values.specs.declared.value.Value.{Value}
 use Rattle.values.specs.declared.value.Value.TheVariants.{Null}
+use Rattle.store.specs.Numbers.{by_number}
 use Rattle.store.specs.declared.made.NotMade.{NotMade}
 use Rattle.store.specs.declared.made.NotMade.TheVariants.{Sizes, Memory}
 
@@ -41,8 +42,7 @@ Created m c k (Some r) n = (room m k ≡ true) × (r ≡ length m.records + 1) �
 
 -- a record by its number, from 1
 abbrev pub record_at : Records → ℕ → Option Rec
-record_at m zero = None
-record_at m (suc i) = slice_get m.records i
+record_at m r = by_number m.records r
 
 abbrev pub class_in : Option Rec → Option ℕ
 class_in None = None

@@ -25,14 +25,14 @@ fn apply<S: Store>(store: &mut S, change: Change)
 {
     match change {
         Change::Create { class, cells } => {
-            let _ = store.create(class, cells as usize);
+            let _ = store.create(class, usize::from(cells));
         }
         Change::Write {
             record,
             cell,
             value,
         } => {
-            let _ = store.write(record, cell as usize, value);
+            let _ = store.write(record, usize::from(cell), value);
         }
     }
 }
@@ -40,9 +40,9 @@ fn apply<S: Store>(store: &mut S, change: Change)
 // Clears a store and makes the changes one by one. After any changes to any store, the records and the records left
 // are R together, and the cells used and the cells left are C.
 pub fn replay<S: Store>(store: &mut S, changes: &[Change])
-    ensures after { S.model store.new ≡ played (cleared S.most S.widest) changes.now }
-    ensures balance { Balance S.most S.widest (S.model store.new) }
-    ensures always { Balances S.most S.widest }
+    ensures after { S.model store.new ≡ played (cleared S.R S.C) changes.now }
+    ensures balance { Balance S.R S.C (S.model store.new) }
+    ensures always { Balances S.R S.C }
 {
     store.clear();
     for change in changes {

@@ -4,7 +4,6 @@
 
 ghost use Rattle.std.specs.Prelude.{◌<◌};
 
-use anyhow::anyhow;
 use rows::held::Rows;
 use slips::slips::Slips;
 use std::io::{BufWriter, Write};
@@ -36,22 +35,35 @@ enum Operation {
 #[derive(Clone, Copy)]
 enum Answer {
     Done,
-    Refused,
     Number(u16),
     Holds(i32),
     Null,
     Other,
 }
 
-impl fmt::Display for Answer {
+impl From<Value> for Answer {
+    fn from(value: Value) -> Answer {
+        match value {
+            Value::Null => Answer::Null,
+            Value::Int(n) => Answer::Holds(n),
+            _ => Answer::Other,
+        }
+    }
+}
+
+// What a store answered; nothing where it refused.
+#[derive(Clone, Copy)]
+struct Reply(Option<Answer>);
+
+impl fmt::Display for Reply {
     fn fmt<W: fmt::Write>(&self, f: &mut fmt::Formatter<W>) -> fmt::Result {
-        match *self {
-            Answer::Done => write!(f, "done"),
-            Answer::Refused => write!(f, "refused"),
-            Answer::Number(n) => write!(f, "{n}"),
-            Answer::Holds(n) => write!(f, "int {n}"),
-            Answer::Null => write!(f, "null"),
-            Answer::Other => write!(f, "other"),
+        match self.0 {
+            Some(Answer::Done) => write!(f, "done"),
+            Some(Answer::Number(n)) => write!(f, "{n}"),
+            Some(Answer::Holds(n)) => write!(f, "int {n}"),
+            Some(Answer::Null) => write!(f, "null"),
+            Some(Answer::Other) => write!(f, "other"),
+            None => write!(f, "refused"),
         }
     }
 }
@@ -78,61 +90,41 @@ impl Dice {
             0 => Operation::Clear,
             1..=12 => Operation::Create {
                 class: self.roll(32),
-                cells: self.roll(5) as usize,
+                cells: usize::from(self.roll(5)),
             },
             13..=18 => Operation::ClassOf {
                 record: self.roll(6),
             },
             19..=40 => Operation::Read {
                 record: self.roll(6),
-                cell: self.roll(3) as usize,
+                cell: usize::from(self.roll(3)),
             },
             _ => Operation::Write {
                 record: self.roll(6),
-                cell: self.roll(3) as usize,
+                cell: usize::from(self.roll(3)),
                 value: self.roll(1000),
             },
         }
     }
 }
 
-fn held(value: Value) -> Answer {
-    match value {
-        Value::Null => Answer::Null,
-        Value::Int(n) => Answer::Holds(n),
-        _ => Answer::Other,
-    }
-}
-
 // Makes one operation on a store.
-fn play<S: Store>(store: &mut S, operation: Operation) -> Answer {
+fn play<S: Store>(store: &mut S, operation: Operation) -> Option<Answer> {
     match operation {
         Operation::Clear => {
             store.clear();
-            Answer::Done
+            Some(Answer::Done)
         }
-        Operation::Create { class, cells } => match store.create(class, cells) {
-            Some(n) => Answer::Number(n),
-            None => Answer::Refused,
-        },
-        Operation::ClassOf { record } => match store.class_of(record) {
-            Some(n) => Answer::Number(n),
-            None => Answer::Refused,
-        },
-        Operation::Read { record, cell } => match store.read(record, cell) {
-            Some(value) => held(value),
-            None => Answer::Refused,
-        },
+        Operation::Create { class, cells } => store.create(class, cells).map(Answer::Number),
+        Operation::ClassOf { record } => store.class_of(record).map(Answer::Number),
+        Operation::Read { record, cell } => store.read(record, cell).map(Answer::from),
         Operation::Write {
             record,
             cell,
             value,
         } => {
-            if store.write(record, cell, Value::Int(i32::from(value))) {
-                Answer::Done
-            } else {
-                Answer::Refused
-            }
+            store.write(record, cell, Value::Int(i32::from(value)))?;
+            Some(Answer::Done)
         }
     }
 }
@@ -144,19 +136,15 @@ fn compare<S: Store, T: Store, W: Write>(
     second: &mut T,
     operation: Operation,
 ) -> io::Result<()> {
-    let a = play(first, operation);
-    let b = play(second, operation);
+    let a = Reply(play(first, operation));
+    let b = Reply(play(second, operation));
     writeln!(out, "{a} {b}")
 }
 
 fn main(rt: HostRuntime) -> anyhow::Result<()> {
     let heap = rt.alloc();
-    let Ok(mut rows) = Rows::<5, 12>::new(heap) else {
-        return Err(anyhow!("no memory"));
-    };
-    let Ok(mut slips) = Slips::<5, 12>::new(heap) else {
-        return Err(anyhow!("no memory"));
-    };
+    let mut rows = Rows::<5, 12>::new(heap)?;
+    let mut slips = Slips::<5, 12>::new(heap)?;
     let mut out = BufWriter::new(heap, rt.stdout())?;
     let mut dice = Dice { state: 2026 };
     for _ in 0..800 {

@@ -2,8 +2,8 @@ use Rattle.std.proofs.Common.{◌≡◌, ◌+◌, ◌++◌, replicate, vec_items
 use Rattle.values.specs.declared.value.Value.TheVariants.{Null}
 use Rattle.rows.proofs.rows.add_nulls.Given as goal
 
-abbrev pub invariant-loop-n : goal.invariant-loop-n
-invariant-loop-n l =
-    (vec_items l.cells ≡ vec_items l.initial.cells ++ replicate l.n Null) ×
-    (vec_len l.cells ≡ vec_len l.initial.cells + l.n) ×
+abbrev pub invariant-loop : goal.invariant-loop
+invariant-loop l =
+    (vec_items l.cells ≡ vec_items l.initial.cells ++ replicate l.counter Null) ×
+    (vec_len l.cells ≡ vec_len l.initial.cells + l.counter) ×
     (vec_capacity l.cells ≡ vec_capacity l.initial.cells)

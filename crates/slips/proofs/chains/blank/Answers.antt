@@ -1,8 +1,8 @@
-use Rattle.std.proofs.Common.{◌≡◌, ◌<◌, length, sym, ap, ◌∙◌, arith, rules}
+use Rattle.std.proofs.Common.{◌≡◌, ◌<◌, length, arith, rules}
 use Rattle.values.specs.declared.value.Value.TheVariants.{Null}
-use Rattle.slips.specs.Chains.{slot, after, chain, with_slot, nulled}
-use Rattle.slips.specs.Walking.{after_within, after_more, chain_more}
-use Rattle.slips.specs.Writing.{next_same, nulled_links, nulled_push}
+use Rattle.slips.specs.Chains.{after, chain}
+use Rattle.slips.proofs.Walking.{after_within, after_more, chain_more}
+use Rattle.slips.proofs.Writing.{next_same, nulled_links, nulled_push}
 use Rattle.slips.proofs.chains.blank.Goals as goal
 
 there : (c : goal.In-loop) → c.loop.next < length c.loop.slots
@@ -19,17 +19,13 @@ loop-preserved c =
     let ss = c.args.slots.now in
     let ts = c.loop.slots in
     let xs = chain ss c.loop.counter c.args.first in
-    let a = after ss c.loop.counter c.args.first in (
-      next_same ts c.loop.next Null c.loop.next ∙ ap (λ us. (slot us c.loop.next).next) c.loop.invariant.1 ∙ nulled_links ss xs c.loop.next
-          ∙ ap (λ i. (slot ss i).next) c.loop.invariant.0 ∙ sym (after_more ss c.loop.counter c.args.first),
-      ap (λ us. with_slot us c.loop.next Null) c.loop.invariant.1 ∙ ap (λ i. with_slot (nulled ss xs) i Null) c.loop.invariant.0
-          ∙ sym (nulled_push ss xs a) ∙ ap (nulled ss) (sym (chain_more ss c.loop.counter c.args.first)),
-    )
+    let a = after ss c.loop.counter c.args.first in
+    let links = nulled_links ss xs c.loop.next in
+    let kept = next_same ts c.loop.next Null c.loop.next in
+    let more = after_more ss c.loop.counter c.args.first in
+    let longer = chain_more ss c.loop.counter c.args.first in
+    let pushed = nulled_push ss xs a in
+    (grind arith, grind arith)
 
 pub returns : goal.returns
-returns c =
-    let e : c.loop.counter ≡ c.args.count = omega arith in
-    record {
-      end = c.loop.invariant.0 ∙ ap (λ n. after c.args.slots.now n c.args.first) e;
-      nulls = c.loop.invariant.1 ∙ ap (λ n. nulled c.args.slots.now (chain c.args.slots.now n c.args.first)) e;
-    }
+returns c = let all : c.loop.counter ≡ c.args.count = omega arith in record { end = grind arith; nulls = grind arith }

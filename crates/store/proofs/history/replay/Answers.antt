@@ -15,7 +15,7 @@ loop-change-preserved g c =
 pub returns : goal.returns
 returns g c =
     let xs = c.args.changes.now in
-    let m = cleared g.S.Store.most g.S.Store.widest in
-    let all = balances g.S.Store.most g.S.Store.widest in
+    let m = cleared g.S.Store.R g.S.Store.C in
+    let all = balances g.S.Store.R g.S.Store.C in
     let e : g.S.Store.model c.loop-change.store ≡ played m xs = c.loop-change.invariant ∙ ap (played m) (take_all c.loop-change.change-index xs c.loop-change-test.false) in
     record { after = e; balance = subst (Balance _ _) (sym e) (all xs); always = all }

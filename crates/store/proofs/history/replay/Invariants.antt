@@ -4,4 +4,4 @@ use Rattle.store.specs.History.{played}
 use Rattle.store.proofs.history.replay.Given as goal
 
 abbrev pub invariant-loop-change : goal.invariant-loop-change
-invariant-loop-change g l = g.S.Store.model l.store ≡ played (cleared g.S.Store.most g.S.Store.widest) (take l.change-index l.changes)
+invariant-loop-change g l = g.S.Store.model l.store ≡ played (cleared g.S.Store.R g.S.Store.C) (take l.change-index l.changes)
