@@ -1,6 +1,5 @@
 -- The environment of a class, step by step.
-use Rattle.std.proofs.Common.{◌≡◌, ℕ, zero, suc, ◌<◌, true, false, is_some, Some, None, Option, sym, refl, ap, ◌∙◌, arith}
-use borrow.Author.Tests.{clash}
+use Rattle.std.proofs.Common.{◌≡◌, ℕ, zero, suc, ◌<◌, Some, None, Option, sym, refl, ap, ◌∙◌, arith}
 use Rattle.std.specs.Option.{option_or}
 use Rattle.names.specs.Env.{lookup, stacked}
 use Rattle.types.specs.Classes.{class_at, Extends}
@@ -32,10 +31,9 @@ module _ (w : Contents) (o : (k j : ℕ) → Extends w.classes k j → j < k) wh
       ap (option_or (lookup called (own w.layouts w.members k) x))
       (above_same (climb k) (environment w) (class_at w.classes k).parent x (λ j e. let a = o k j e in climbing_same k (suc j) j x a (omega arith)))
 
-  pub environment_own : (k x : ℕ) (r : Option Member) → r ≡ lookup called (own w.layouts w.members k) x → is_some r ≡ true → environment w k x ≡ r
-  environment_own k x (Some m) e t = environment_is k x ∙ ap (λ r. option_or r (above (environment w) (class_at w.classes k).parent x)) (sym e)
-  environment_own k x None e t = absurd (clash t)
+  pub environment_own : (k x : ℕ) (m : Member) → Some m ≡ lookup called (own w.layouts w.members k) x → environment w k x ≡ Some m
+  environment_own k x m e = environment_is k x ∙ ap (λ r. option_or r (above (environment w) (class_at w.classes k).parent x)) (sym e)
 
-  pub environment_up : (k x : ℕ) (r : Option Member) → r ≡ lookup called (own w.layouts w.members k) x → is_some r ≡ false → environment w k x ≡ above (environment w) (class_at w.classes k).parent x
-  environment_up k x (Some m) e t = absurd (clash (sym t))
-  environment_up k x None e t = environment_is k x ∙ ap (λ r. option_or r (above (environment w) (class_at w.classes k).parent x)) (sym e)
+  pub environment_up : (k x : ℕ) (o : Option ℕ) → None ≡ lookup called (own w.layouts w.members k) x → (class_at w.classes k).parent ≡ o → environment w k x ≡ above (environment w) o x
+  environment_up k x o e p =
+      environment_is k x ∙ ap (λ r. option_or r (above (environment w) (class_at w.classes k).parent x)) (sym e) ∙ ap (λ o. above (environment w) o x) p

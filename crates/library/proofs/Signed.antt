@@ -1,6 +1,9 @@
 -- A signature with one parameter more, and signatures that are equal place by place.
-use Rattle.std.proofs.Common.{◌≡◌, ℕ, suc, ◌+◌, ◌-◌, ◌<◌, ◌≤◌, eqb, List, [], ◌∷◌, ◌++◌, length, get_or, set, replicate, Decides, sym, ap, ◌∙◌, arith, eq-eqb, eqb-true}
-use Rattle.std.proofs.lemmas.List.{append_assoc, ext_get_or, length_push, set_at}
+use Rattle.std.proofs.Common.{◌≡◌, ℕ, suc, ◌+◌, ◌-◌, ◌<◌, Bool, ◌==◌, ◌&&◌, List, [], ◌∷◌, ◌++◌, length, set, replicate, Decides, refl, ap, arith}
+use Rattle.std.specs.Cmp.Lexicographic.{pointwise}
+use Rattle.std.proofs.lemmas.Bool.Decides.{Decides-at, Decides-like, Decides-and, Decides-eqb}
+use Rattle.std.proofs.lemmas.List.{append_assoc, length_push, set_at}
+use Rattle.std.proofs.lemmas.Slice.Eq.{slice_eq-Decides}
 use Rattle.values.specs.declared.types.«Type».{«Type» as Ty}
 use Rattle.values.specs.declared.types.«Type».TheVariants.{Void}
 use Rattle.library.specs.declared.definition.Signature.{Signature}
@@ -20,7 +23,10 @@ signature_more s ts t h e =
     let l = length_push ts t in
     cc
 
-pub signature_same : (s r : Signature) (m : ℕ) → length s.types ≡ 8 → length r.types ≡ 8 → 8 ≤ m → ((k : ℕ) → k < m → get_or s.types k Void ≡ get_or r.types k Void) → Decides (eqb s.count r.count) (s ≡ r)
-signature_same s r m a b l h =
-    let e : s.types ≡ r.types = ext_get_or Void s.types r.types (a ∙ sym b) (λ k q. h k (omega (arith, q, a))) in
-    (λ t. let n : s.count ≡ r.count = eqb-true _ _ t in λ i. record { count = n i; types = e i }, λ p. eq-eqb _ _ (ap (λ z. z.count) p))
+-- signatures are equal where their counts are and their types are, place by place
+pub signature_same : {E : Ty → Ty → Bool} → (s r : Signature) (b : Bool) → b ≡ ((s.count == r.count) && pointwise E s.types r.types) → ((t u : Ty) → Decides (E t u) (t ≡ u)) → Decides b (s ≡ r)
+signature_same s r b e h =
+    Decides-at b _ e (Decides-like _
+    (λ (p : (s.count ≡ r.count) × (s.types ≡ r.types)). λ i. record { count = p.0 i; types = p.1 i })
+    (λ p. (ap (λ z. z.count) p, ap (λ z. z.types) p))
+    (Decides-and _ _ (Decides-eqb s.count r.count) (slice_eq-Decides h s.types r.types _ refl)))

@@ -1,5 +1,5 @@
 -- What a type name stands for, from what was found under it.
-use Rattle.std.proofs.Common.{◌≡◌, ℕ, List, Some, None, Option, sym, refl, ap, ◌∙◌, subst, arith}
+use Rattle.std.proofs.Common.{◌≡◌, ℕ, List, Some, None, Option, sym, refl, ap, ◌∙◌, subst}
 use Rattle.std.specs.Option.{option_or}
 use Rattle.values.specs.declared.types.«Type».{«Type» as Ty}
 use Rattle.values.specs.declared.types.«Type».TheVariants.{Class as ClassType}
@@ -14,21 +14,13 @@ use Rattle.library.specs.declared.lookup.TypeName.{TypeName}
 use Rattle.library.specs.Environments.{basic, basic_type, class_type, type_env}
 
 module _ (cs : List Class) (x : ℕ) where
-  pub type_found : (b : Option TypeName) (c : Option Class) → b ≡ lookup (λ t. t.name) basic x → c ≡ lookup (λ c. c.name) cs x → option_or (basic_type b) (class_type c) ≡ type_env cs x
-  unfolding type_env
-  type_found b c e d = cc
-
-  pub basic_found : (t : TypeName) → Some t ≡ lookup (λ t. t.name) basic x → Some t.of ≡ type_env cs x
-  unfolding type_env
-  basic_found t e = ap (λ b. option_or (basic_type b) (class_type (lookup (λ c. c.name) cs x))) e
-
   -- a type that a name stands for is none of an unknown class
   pub type_known : Ordered cs → (t : Ty) → type_env cs x ≡ Some t → Known cs t
   unfolding type_env
   type_known o t e = by_basic (lookup (λ b. b.name) basic x) refl
     where
       by_class : (c : Option Class) → lookup (λ c. c.name) cs x ≡ c → class_type c ≡ Some t → Known cs t
-      by_class None f g = absurd (let z : ◌≡◌ {A = ℕ} 0 1 = cc in omega arith)
+      by_class None f g = absurd cc
       by_class (Some c) f g = let i : ClassType c.number ≡ t = cc in subst (Known cs) i (number_known cs x c o f)
 
       by_basic : (b : Option TypeName) → lookup (λ b. b.name) basic x ≡ b → Known cs t

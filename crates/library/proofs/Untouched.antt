@@ -1,8 +1,7 @@
 -- What an addition leaves as it was.
-use Rattle.std.proofs.Common.{◌≡◌, ℕ, ◌≤◌, List, length, refl, ◌∙◌, arith}
-use Rattle.std.proofs.lemmas.List.{take-append-le, take-set-le}
-use Rattle.library.specs.declared.member.Member.{Member}
-use Rattle.library.specs.Contents.{Contents, with_class, more_members, with_layout}
+use Rattle.std.proofs.Common.{◌≡◌, ℕ, ◌≤◌, length, refl, ◌∙◌, arith}
+use Rattle.std.proofs.lemmas.List.{take-append-le}
+use Rattle.library.specs.Contents.{Contents, with_class}
 use Rattle.library.specs.Counting.{cut_to, Untouched}
 use Rattle.library.proofs.Kept.{same_contents}
 
@@ -16,9 +15,3 @@ module _ (w : Contents) where
       (take-append-le s.classes w.classes _ a)
       (take-append-le s.classes w.layouts _ (omega arith))
       refl refl refl
-
-  pub members_untouched : (ms : List Member) (c : ℕ) → Untouched c (length w.members) w (more_members w ms)
-  members_untouched ms c s a b = same_contents (cut_to s (more_members w ms)) (cut_to s w) refl refl (take-append-le s.members w.members ms b) refl refl
-
-  pub layout_untouched : (k f n m : ℕ) → Untouched k m w (with_layout w k f n)
-  layout_untouched k f n m s a b = same_contents (cut_to s (with_layout w k f n)) (cut_to s w) refl (take-set-le s.classes w.layouts k _ a) refl refl refl

@@ -1,12 +1,11 @@
 -- What a library holds, as five lists, and what each addition leaves.
-use Rattle.std.specs.Prelude.{ℕ, List, [], ◌∷◌, ◌++◌, length, drop, replicate, Some, None, vec_items, slice_set}
+use Rattle.std.specs.Prelude.{ℕ, List, [], ◌∷◌, ◌++◌, length, drop, replicate, Some, None, Option, vec_items, slice_set}
 use Rattle.table.specs.declared.kinds.Node.{Node}
 use Rattle.values.specs.declared.types.«Type».TheVariants.{Boolean, Class as ClassType}
 use Rattle.types.specs.declared.class.Class.{Class}
 use Rattle.library.specs.declared.member.Member.{Member}
 use Rattle.library.specs.declared.member.Layout.{Layout}
 use Rattle.library.specs.declared.attribute.Attribute.{Attribute}
-use Rattle.library.specs.declared.attribute.Attribute.TheVariants.{Nothing}
 use Rattle.library.specs.declared.definition.Nature.TheVariants.{Method}
 use Rattle.library.specs.declared.held.Library.{Library}
 use Rattle.library.specs.Signatures.{signature}
@@ -16,7 +15,7 @@ pub record Contents : Type 0 where
   pub layouts : List Layout
   pub members : List Member
   pub nodes : List Node
-  pub attributes : List Attribute
+  pub attributes : List (Option Attribute)
 
 abbrev pub contents : Library → Contents
 contents l = record { classes = vec_items l.classes; layouts = vec_items l.layouts; members = vec_items l.members; nodes = vec_items l.nodes; attributes = vec_items l.attributes }
@@ -35,7 +34,7 @@ predefined = record { classes = object ∷ []; layouts = record { first = 0; end
 
 -- with the nodes of a batch behind the others, none of them with an attribute yet
 abbrev pub with_nodes : Contents → List Node → Contents
-with_nodes w ns = record { classes = w.classes; layouts = w.layouts; members = w.members; nodes = w.nodes ++ ns; attributes = w.attributes ++ replicate (length ns) Nothing }
+with_nodes w ns = record { classes = w.classes; layouts = w.layouts; members = w.members; nodes = w.nodes ++ ns; attributes = w.attributes ++ replicate (length ns) None }
 
 -- with one more class, under the class j, which has the next number and no members yet
 abbrev pub with_class : Contents → ℕ → ℕ → Contents
@@ -54,5 +53,5 @@ abbrev pub with_layout : Contents → ℕ → ℕ → ℕ → Contents
 with_layout w k f n = record { classes = w.classes; layouts = slice_set w.layouts k (record { first = f; end = length w.members; cells = n }); members = w.members; nodes = w.nodes; attributes = w.attributes }
 
 -- with other attributes
-abbrev pub with_attributes : Contents → List Attribute → Contents
+abbrev pub with_attributes : Contents → List (Option Attribute) → Contents
 with_attributes w as' = record { classes = w.classes; layouts = w.layouts; members = w.members; nodes = w.nodes; attributes = as' }

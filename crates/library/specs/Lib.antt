@@ -4,3 +4,4 @@ pub mod Contents
 pub mod Environments
 pub mod Counting
 pub mod Questions
+pub mod Natures

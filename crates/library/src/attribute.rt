@@ -4,7 +4,6 @@ use values::types::Type;
 
 #[derive(Clone, Copy)]
 pub enum Attribute {
-    Nothing,
     // of a type name, and of an expression that is no Identifier
     Type(Type),
     // of an Identifier that is an expression, a field or a method

@@ -7,8 +7,10 @@ pub enum Visibility {
     Protected,
 }
 
-// The types of a method's parameters, in order. The places behind them are void.
-#[derive(Clone, Copy)]
+// The types of a method's parameters, in order. The places behind them are void. An array with its count: an ArrayVec is not
+// Copy, and definitions are copied out of the lists. That the count is at most 8 is no ghost field, since `signature` of the
+// specs makes a Signature of any list of types, of which that does not hold.
+#[derive(Clone, Copy, PartialEq, Eq)]
 pub struct Signature {
     pub count: usize,
     pub types: [Type; 8],

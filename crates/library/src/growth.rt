@@ -1,6 +1,5 @@
 // How a library is made and grows.
-ghost use Rattle.std.specs.Prelude.{◌≡◌, ◌+◌, ◌<◌, ◌≤◌, [], ◌∷◌, ◌++◌, length, replicate, IfOk, vec_len, vec_capacity, slice_set};
-ghost use Rattle.library.specs.declared.attribute.Attribute.TheVariants.{Nothing};
+ghost use Rattle.std.specs.Prelude.{◌≡◌, ◌+◌, ◌<◌, ◌≤◌, [], ◌∷◌, length, IfOk, slice_set};
 ghost use Rattle.library.specs.Contents.{contents, predefined, with_nodes, with_class, more_members, with_layout, with_attributes};
 
 use super::attribute::Attribute;
@@ -12,36 +11,18 @@ use table::kinds::Node;
 use types::class::Class;
 use values::types::Type;
 
-// At most so many classes, Object counted, and so many nodes. Each member has a node of its own, but Object's equals.
+// At most so many classes, Object counted, and so many nodes of all batches together, where `table` counts those of one batch.
+// Each member has a node of its own, but Object's equals.
 pub const MOST_CLASSES: usize = 32;
 
 pub const MOST_NODES: usize = 1024;
 
 const MOST_MEMBERS: usize = 1025;
 
-// Puts the nodes of a batch behind the others.
-fn append(nodes: &mut Vec<Node>, batch: &[Node])
-    requires { vec_len nodes.old + length batch.now ≤ vec_capacity nodes.old }
-    ensures items { nodes.new.items ≡ nodes.old.items ++ batch.now }
-    ensures len { vec_len nodes.new ≡ vec_len nodes.old + length batch.now }
-    ensures capacity { vec_capacity nodes.new ≡ vec_capacity nodes.old }
-{
-    for node in batch {
-        nodes.push_reserved(*node);
-    }
-}
+// The symbols of what no batch declares: the class Object and its method equals.
+const OBJECT: u16 = 5;
 
-// Adds so many places for attributes.
-fn leave_blank(attributes: &mut Vec<Attribute>, count: usize)
-    requires { vec_len attributes.old + count ≤ vec_capacity attributes.old }
-    ensures items { attributes.new.items ≡ attributes.old.items ++ replicate count Nothing }
-    ensures len { vec_len attributes.new ≡ vec_len attributes.old + count }
-    ensures capacity { vec_capacity attributes.new ≡ vec_capacity attributes.old }
-{
-    for _place in 0..count {
-        attributes.push_reserved(Attribute::Nothing);
-    }
-}
+const EQUALS: u16 = 6;
 
 impl Library {
     // A library that holds only Object. No later call allocates.
@@ -54,7 +35,7 @@ impl Library {
         let nodes = Vec::with_capacity(heap, MOST_NODES)?;
         let attributes = Vec::with_capacity(heap, MOST_NODES)?;
         classes.push_reserved(Class {
-            name: 5,
+            name: OBJECT,
             number: 0,
             parent: None,
         });
@@ -64,7 +45,7 @@ impl Library {
             cells: 0,
         });
         members.push_reserved(Member {
-            name: 6,
+            name: EQUALS,
             definition: Definition {
                 nature: Nature::Method(Signature::empty().with(Type::Class(0))),
                 of: Type::Boolean,
@@ -80,13 +61,13 @@ impl Library {
         })
     }
 
-    // Keeps the nodes of a batch, none of them with an attribute yet.
+    // Keeps the nodes of a batch, none of them with an attribute yet. There is room for them, so neither call allocates or fails.
     pub fn keep_nodes(&mut self, batch: &[Node])
         requires { length (contents self.old).nodes + length batch.now ≤ 1024 }
         ensures { contents self.new ≡ with_nodes (contents self.old) batch.now }
     {
-        append(&mut self.nodes, batch);
-        leave_blank(&mut self.attributes, batch.len());
+        self.nodes.extend_from_slice(batch).unwrap();
+        self.attributes.resize(self.nodes.len(), None).unwrap();
     }
 
     // Adds a class under the class `parent`. It has no members yet.
@@ -125,11 +106,11 @@ impl Library {
         ensures { contents self.new ≡ with_layout (contents self.old) class first cells }
     {
         let end = self.members.len();
-        self.layouts[class as usize] = Layout { first, end, cells };
+        self.layouts[usize::from(class)] = Layout { first, end, cells };
     }
 
-    // Gives a node an attribute.
-    pub fn note(&mut self, place: usize, attribute: Attribute)
+    // Gives a node an attribute, or none.
+    pub fn note(&mut self, place: usize, attribute: Option<Attribute>)
         requires { place < length (contents self.old).nodes }
         ensures { contents self.new ≡ with_attributes (contents self.old) (slice_set (contents self.old).attributes place attribute) }
     {

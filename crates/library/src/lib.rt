@@ -9,5 +9,6 @@ pub mod guard;
 pub mod held;
 pub mod lookup;
 pub mod member;
+pub mod nature;
 pub mod questions;
 pub mod signature;

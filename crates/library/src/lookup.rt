@@ -10,6 +10,7 @@ use super::held::Library;
 use super::member::{Layout, Member};
 use names::{Named, find};
 use types::class::Class;
+use types::hierarchy::Hierarchy;
 use types::subtypes::parent_of;
 use values::types::Type;
 
@@ -55,29 +56,31 @@ impl Library {
         self.classes.as_slice()
     }
 
+    // The classes, with the relations on types that they give.
+    pub fn hierarchy(&self) -> Hierarchy<'_>
+        ensures { result.classes.now ≡ (contents self.now).classes }
+    {
+        Hierarchy {
+            classes: self.classes(),
+        }
+    }
+
     // The type that a name stands for.
+    #[tactic(auto, unfolding(crate::specs::Environments::type_env))]
     pub fn type_named(&self, name: u16) -> Option<Type>
         ensures { result ≡ type_env (contents self.now).classes name }
     {
-        match find(&BASIC, name) {
-            Some(basic) => Some(basic.of),
-            None => match find(self.classes(), name) {
-                Some(class) => Some(Type::Class(class.number)),
-                None => None,
-            },
-        }
+        let basic = find(&BASIC, name).map(|basic| basic.of);
+        basic.or_else(|| find(self.classes(), name).map(|class| Type::Class(class.number)))
     }
 
     // The class that a name stands for, by number.
     pub fn class_named(&self, name: u16) -> Option<u8>
         ensures { MatchOption result ((j : ℕ) → type_env (contents self.now).classes name ≢ Some (ClassType j)) (λ j. (type_env (contents self.now).classes name ≡ Some (ClassType j)) × (j < length (contents self.now).classes)) }
     {
-        match self.type_named(name) {
-            None => None,
-            Some(found) => match found {
-                Type::Class(number) => Some(number),
-                _ => None,
-            },
+        match self.type_named(name)? {
+            Type::Class(number) => Some(number),
+            _ => None,
         }
     }
 
@@ -102,14 +105,10 @@ impl Library {
         ensures value { result ≡ layout_at (contents self.now).layouts class }
         ensures placed { Placed result (length (contents self.now).members) }
     {
-        if class as usize >= self.layouts.len() {
-            return Layout {
-                first: 0,
-                end: 0,
-                cells: 0,
-            };
-        }
-        self.layouts[class as usize]
+        self.layouts
+            .get(usize::from(class))
+            .copied()
+            .unwrap_or_default()
     }
 
     // The members that a class declares itself.
@@ -132,16 +131,13 @@ impl Library {
     pub fn member_named(&self, class: u8, name: u16) -> Option<Member>
         ensures { result ≡ environment (contents self.now) class name }
     {
+        // a climb with a measure: the iterator `successors` has no end that a proof knows
         let mut at = class;
         loop {
-            let found = find(self.own_members(at), name);
-            if found.is_some() {
-                return found;
+            if let Some(member) = find(self.own_members(at), name) {
+                return Some(member);
             }
-            let Some(parent) = parent_of(self.classes(), at) else {
-                return None;
-            };
-            at = parent;
+            at = parent_of(self.classes(), at)?;
         }
     }
 }

@@ -21,7 +21,7 @@ impl Named for Member {
 }
 
 // Where the members that a class declares begin and end among all members, and how many cells its records have.
-#[derive(Clone, Copy)]
+#[derive(Clone, Copy, Default)]
 pub struct Layout {
     pub first: usize,
     pub end: usize,

@@ -8,24 +8,21 @@ use super::held::Library;
 use names::find;
 use types::class::Class;
 
-// Why there is no answer.
-#[derive(Clone, Copy)]
+// Why there is no answer, by the number of the refusal.
+#[derive(Clone, Copy, PartialEq, Eq, Debug)]
 pub enum Unanswered {
     // the symbol is no class
-    NoClass,
+    NoClass = 8,
     // the class has nothing under the name
-    NoMember,
+    NoMember = 10,
 }
 
 impl Unanswered {
-    // the number of the refusal
+    // Its fixed number, by which callers outside tell the refusals.
     pub fn number(self) -> u8
         ensures { result ≡ refusal self }
     {
-        match self {
-            Unanswered::NoClass => 8,
-            Unanswered::NoMember => 10,
-        }
+        self as u8
     }
 }
 
@@ -34,10 +31,7 @@ impl Library {
     pub fn class(&self, name: u16) -> Result<Class, Unanswered>
         ensures { result ≡ class_answer (contents self.now) name }
     {
-        match find(self.classes(), name) {
-            Some(class) => Ok(class),
-            None => Err(Unanswered::NoClass),
-        }
+        find(self.classes(), name).ok_or(Unanswered::NoClass)
     }
 
     // What a name stands for in a class, inherited members too.
@@ -45,9 +39,9 @@ impl Library {
         ensures { result ≡ member_answer (contents self.now) class name }
     {
         let found = self.class(class)?;
-        match self.member_named(found.number, name) {
-            Some(member) => Ok(member.definition),
-            None => Err(Unanswered::NoMember),
-        }
+        let member = self
+            .member_named(found.number, name)
+            .ok_or(Unanswered::NoMember)?;
+        Ok(member.definition)
     }
 }

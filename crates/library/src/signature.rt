@@ -27,14 +27,10 @@ impl Signature {
         longer
     }
 
+    // Beside `==`, which the check does not know to mean that the two are one.
     pub fn equals(self, other: Signature) -> bool
         ensures { Decides result (self ≡ other) }
     {
-        for i in 0..8 {
-            if self.types[i] != other.types[i] {
-                return false;
-            }
-        }
-        self.count == other.count
+        self == other
     }
 }

@@ -1,9 +1,8 @@
--- Look-up: over lists put one behind the other, one entry on in a list, and what it finds.
-use Rattle.std.proofs.Common.{◌≡◌, ℕ, ◌+◌, ◌<◌, true, false, cond, eqb, ◌↔◌, List, [], ◌∷◌, ◌++◌, length, get_or, drop, Some, None, sym, refl, ap, ◌∙◌, ⊎_elim, arith}
+-- Look-up: over lists put one behind the other, and what it finds.
+use Rattle.std.proofs.Common.{◌≡◌, ℕ, true, false, cond, eqb, ◌==◌, ◌↔◌, List, [], ◌∷◌, ◌++◌, Some, None, refl, ap, ⊎_elim, arith}
 use Rattle.std.specs.Option.{option_or}
-use Rattle.std.specs.List.{ContainsAt, AllByRecursion}
+use Rattle.std.specs.List.{ContainsAt, AllByRecursion, find}
 use Rattle.std.proofs.ByRecursion.{has_append_right}
-use Rattle.std.proofs.lemmas.List.{at_drop_more}
 use Rattle.std.proofs.lemmas.Bool.Decides.{nat_tests, eqb_tells}
 use Rattle.names.specs.Env.{lookup, stacked}
 
@@ -30,8 +29,7 @@ module _ {D : Type 0} (symbol : D → ℕ) where
   lookup_absent (d ∷ ds) x =
       (λ h. (grind (arith, nat_tests), (lookup_absent ds x).0 (grind (arith, nat_tests))), λ h. let r = (lookup_absent ds x).1 h.1 in grind (arith, nat_tests, h.0))
 
-  -- what is left of a list from i on, by the entry at i
-  pub lookup_from : (xs : List D) (i : ℕ) (d : D) (x : ℕ) → i < length xs → d ≡ get_or xs i d →
-      lookup symbol (drop i xs) x ≡ cond (eqb (symbol d) x) (Some d) (lookup symbol (drop (i + 1) xs) x)
-  lookup_from xs i d x l e =
-      at_drop_more (λ ds. lookup symbol ds x) xs i d l ∙ ap (λ y. cond (eqb (symbol y) x) (Some y) (lookup symbol (drop (i + 1) xs) x)) (sym e)
+  -- to look up is to find the first entry with the name
+  pub lookup_find : (xs : List D) (x : ℕ) → find (λ d. symbol d == x) xs ≡ lookup symbol xs x
+  lookup_find [] x = refl
+  lookup_find (d ∷ ds) x = ap (cond (symbol d == x) (Some d)) (lookup_find ds x)

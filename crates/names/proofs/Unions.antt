@@ -1,7 +1,7 @@
 -- Disjoint unions: when two environments are apart, and that the order of stacking does not matter then.
-use Rattle.std.proofs.Common.{◌≡◌, ℕ, ◌+◌, ◌<◌, true, cond, ◌↔◌, List, [], ◌∷◌, length, get_or, drop, is_some, Some, None, Option, sym, refl, ap, ◌∙◌, arith}
+use Rattle.std.proofs.Common.{◌≡◌, ℕ, true, cond, ◌↔◌, List, [], ◌∷◌, is_some, Some, None, Option, sym, refl, ap, ◌∙◌, arith}
+use Rattle.std.specs.List.{find}
 use Rattle.std.specs.Option.{option_or}
-use Rattle.std.proofs.lemmas.List.{at_drop_more}
 use Rattle.std.proofs.lemmas.Bool.Decides.{nat_tests}
 use Rattle.names.specs.Env.{Env, lookup, stacked, Apart, first_in}
 
@@ -38,8 +38,7 @@ module _ {D E : Type 0} (symbol : D → ℕ) where
   pub apart_by : (xs : List D) (e : Env E) (r : Option D) → r ≡ first_in symbol xs e → Apart (lookup symbol xs) e ↔ (r ≡ None)
   apart_by xs e r h = (λ a. h ∙ (apart_none xs e).0 a, λ n. (apart_none xs e).1 (sym h ∙ n))
 
-  -- what is left of a list from i on, by the entry at i
-  pub first_in_from : (xs : List D) (i : ℕ) (d : D) (e : Env E) → i < length xs → d ≡ get_or xs i d →
-      first_in symbol (drop i xs) e ≡ cond (is_some (e (symbol d))) (Some d) (first_in symbol (drop (i + 1) xs) e)
-  first_in_from xs i d e l w =
-      at_drop_more (λ ds. first_in symbol ds e) xs i d l ∙ ap (λ y. cond (is_some (e (symbol y))) (Some y) (first_in symbol (drop (i + 1) xs) e)) (sym w)
+  -- the first entry that an environment defines is found by a test of each
+  pub first_in_find : (xs : List D) (e : Env E) → find (λ d. is_some (e (symbol d))) xs ≡ first_in symbol xs e
+  first_in_find [] e = refl
+  first_in_find (d ∷ ds) e = ap (cond (is_some (e (symbol d))) (Some d)) (first_in_find ds e)

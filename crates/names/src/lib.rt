@@ -19,22 +19,14 @@ pub trait Named {
 pub fn find<D: Named + Copy>(entries: &[D], name: u16) -> Option<D>
     ensures { result ≡ lookup D.symbol entries.now name }
 {
-    for entry in entries {
-        if entry.name() == name {
-            return Some(*entry);
-        }
-    }
-    None
+    entries.iter().find(|entry| entry.name() == name).copied()
 }
 
 // The first entry with that name in `upper`, and where there is none, in `lower`.
 pub fn find_stacked<D: Named + Copy>(upper: &[D], lower: &[D], name: u16) -> Option<D>
     ensures { result ≡ stacked (lookup D.symbol upper.now) (lookup D.symbol lower.now) name }
 {
-    match find(upper, name) {
-        Some(entry) => Some(entry),
-        None => find(lower, name),
-    }
+    find(upper, name).or_else(|| find(lower, name))
 }
 
 // The first entry whose name `taken` has too. Where there is none, the disjoint union of the two environments is defined: it is
@@ -43,17 +35,11 @@ pub fn first_shared<D: Named + Copy, E: Named + Copy>(entries: &[D], taken: &[E]
     ensures value { result ≡ first_in D.Named.symbol entries.now (lookup E.Named.symbol taken.now) }
     ensures union { Apart (lookup D.Named.symbol entries.now) (lookup E.Named.symbol taken.now) ↔ (result ≡ None) }
 {
-    for candidate in entries {
-        if find(taken, candidate.name()).is_some() {
-            return Some(*candidate);
-        }
-    }
-    None
+    let shared = |candidate: &&D| find(taken, candidate.name()).is_some();
+    entries.iter().find(shared).copied()
 }
 
 // The laws of environments stand.
-pub fn environments_stand<D, E>() -> u8
+pub fn environments_stand<D, E>()
     ensures { Laws D E }
-{
-    0
-}
+{}

@@ -16,28 +16,20 @@ module _ (cs : List Class) where
   extends_known k j e =
       elim (cases_lt k (length cs)) [
         | inl l ↦ l
-        | inr g ↦ absurd (let n : (class_at cs k).parent ≡ None = ap (λ c. c.parent) (get_or_past cs k _ g) in let z : ◌≡◌ {A = ℕ} 0 1 = cc in omega arith)
+        | inr g ↦ absurd (let n : (class_at cs k).parent ≡ None = ap (λ c. c.parent) (get_or_past cs k _ g) in cc)
       ]
 
   -- a class has one super-class
   one_parent : (k i j : ℕ) → Extends cs k i → Extends cs k j → i ≡ j
   one_parent k i j p q = cc
 
-  -- only itself lies under a type that is no class
-  pub under_plain : {t u : Ty} → ((k : ℕ) → u ≡ ClassType k → ⊥) → Subtype cs t u → t ≡ u
-  under_plain n same = refl
-  under_plain n (object h) = absurd (n 0 refl)
-  under_plain n (extends {j = j} e) = absurd (n j refl)
-  under_plain n (climb {j = j} e s) = absurd (n j (sym (under_plain n s)))
-  under_plain n (null {k} h) = absurd (n k refl)
-
-  -- only classes and null lie under a class
-  pub plain_under : {t : Ty} {j : ℕ} → ((k : ℕ) → t ≡ ClassType k → ⊥) → (t ≡ Null → ⊥) → Subtype cs t (ClassType j) → ⊥
-  plain_under {j = j} n m same = n j refl
-  plain_under n m (object {k} h) = n k refl
-  plain_under n m (extends {k} e) = n k refl
-  plain_under n m (climb {k} e s) = n k refl
-  plain_under n m (null h) = m refl
+  -- only classes and null lie under another type, and that is a class
+  pub under_plain : {t u : Ty} → ((k j : ℕ) → t ≡ ClassType k → u ≡ ClassType j → ⊥) → ((j : ℕ) → t ≡ Null → u ≡ ClassType j → ⊥) → Subtype cs t u → t ≡ u
+  under_plain n m same = refl
+  under_plain n m (object {k} h) = absurd (n k 0 refl refl)
+  under_plain n m (extends {k} {j} e) = absurd (n k j refl refl)
+  under_plain n m (climb {k} {j} e s) = absurd (n k j refl (sym (under_plain (λ _ i _ q. n k i refl q) (λ i p q. n k i refl q) s)))
+  under_plain n m (null {k} h) = absurd (m k refl refl)
 
   -- null lies only under classes of the list
   pub null_known : {k : ℕ} → Subtype cs Null (ClassType k) → k < length cs
@@ -94,8 +86,8 @@ module _ (cs : List Class) where
     pub none_above : (k j : ℕ) → (class_at cs k).parent ≡ None → j < k → Subtype cs (ClassType k) (ClassType j) → ⊥
     none_above k j n l same = omega arith
     none_above k j n l (object h) = let z = o.rooted k h n in omega arith
-    none_above k j n l (extends e) = let z : ◌≡◌ {A = ℕ} 0 1 = cc in omega arith
-    none_above k j n l (climb e s) = let z : ◌≡◌ {A = ℕ} 0 1 = cc in omega arith
+    none_above k j n l (extends e) = cc
+    none_above k j n l (climb e s) = cc
 
 -- but for an int where a float is declared, what may be assigned lies under what is declared
 pub assigned_under : {cs : List Class} {t u : Ty} → (t ≡ Float → u ≡ Int → ⊥) → Assignable cs t u → Subtype cs u t

@@ -1,5 +1,5 @@
 -- What each operator treats, and that it gives one type.
-use Rattle.std.proofs.Common.{◌≡◌, ℕ, Bool, true, false, Some, None, Decides, Option, sym, refl, ◌∙◌, subst, inl, inr, MatchOption}
+use Rattle.std.proofs.Common.{◌≡◌, Bool, true, false, Some, None, Decides, Option, sym, refl, ◌∙◌, subst, inl, inr, MatchOption}
 use borrow.Author.Tests.{clash}
 use Rattle.std.specs.Bool.{then_some}
 use Rattle.table.specs.declared.view.BinaryOp.{BinaryOp}
@@ -7,7 +7,7 @@ use Rattle.table.specs.declared.view.BinaryOp.TheVariants.{Divide, Minus, Modulo
 use Rattle.table.specs.declared.view.UnaryOp.{UnaryOp}
 use Rattle.table.specs.declared.view.UnaryOp.TheVariants.{Minus as Negate, Not}
 use Rattle.values.specs.declared.types.«Type».{«Type» as Ty}
-use Rattle.values.specs.declared.types.«Type».TheVariants.{Boolean, Float, Int, Null, Class as ClassType}
+use Rattle.values.specs.declared.types.«Type».TheVariants.{Boolean, Float, Int}
 use Rattle.types.specs.Operators.{UnaryTyped, ArithTyped, Arithmetic, Comparison, Equality, Logical, Reference, BinaryTyped, InstanceTyped, Number, Numbers, Both, Equatable}
 use Rattle.types.specs.Operators.UnaryTyped.{minus_int, minus_float, not_boolean}
 use Rattle.types.specs.Operators.ArithTyped.{int_int, int_float, float_int, float_float}
@@ -24,19 +24,8 @@ pub given_as : (R S : Ty → Type 0) → ((v : Ty) → R v → S v) → ((v : Ty
 given_as R S f g None h = λ v s. h v (g v s)
 given_as R S f g (Some v) h = f v h
 
-pub number_types : {t : Ty} → (t ≡ Int → ⊥) → (t ≡ Float → ⊥) → Number t → ⊥
-number_types n m Number.int = n refl
-number_types n m Number.float = m refl
-
-pub reference_types : {t : Ty} → ((k : ℕ) → t ≡ ClassType k → ⊥) → (t ≡ Null → ⊥) → Reference t → ⊥
-reference_types n m (Reference.class {k}) = n k refl
-reference_types n m Reference.null = m refl
-
 pub instance_reference : {t u : Ty} → InstanceTyped t u → Reference t
 instance_reference (instance r) = r
-
-pub instance_class : {t u : Ty} → ((k : ℕ) → u ≡ ClassType k → ⊥) → InstanceTyped t u → ⊥
-instance_class n (instance {k = k} r) = n k refl
 
 -- what a unary operator treats, and what it gives
 abbrev pub UnaryRule : UnaryOp → Ty → Ty → Type 0
@@ -89,7 +78,7 @@ numbers_float Number.int Number.float n = int_float
 numbers_float Number.float Number.int n = float_int
 numbers_float Number.float Number.float n = float_float
 
-arith_only : {t u v w : Ty} → ArithTyped t u v → ArithTyped t u w → v ≡ w
+pub arith_only : {t u v w : Ty} → ArithTyped t u v → ArithTyped t u w → v ≡ w
 arith_only int_int int_int = refl
 arith_only int_float int_float = refl
 arith_only float_int float_int = refl

@@ -2,6 +2,7 @@
 #![tactic(auto)]
 
 pub mod class;
+pub mod hierarchy;
 pub mod operators;
 pub mod subtypes;
 #[cfg(test)]

@@ -36,22 +36,16 @@ pub fn binary_type(op: BinaryOp, left: Type, right: Type) -> Option<Type>
 pub fn allows_instance_of(value: Type, class: Type) -> bool
     ensures { Decides result (InstanceTyped value class) }
 {
-    match class {
-        Type::Class(_) => is_reference(value),
-        _ => false,
-    }
+    matches!(class, Type::Class(_)) && is_reference(value)
 }
 
 // The type that arithmetic gives, if both operands are numbers.
 fn arith_type(left: Type, right: Type) -> Option<Type>
     ensures { MatchOption result ((v : Ty) → ArithTyped left right v → ⊥) (λ v. ArithTyped left right v) }
 {
-    if both(left, right, Type::Int) {
-        Some(Type::Int)
-    } else if numbers(left, right) {
-        Some(Type::Float)
-    } else {
-        None
+    match (left, right) {
+        (Type::Int, Type::Int) => Some(Type::Int),
+        _ => numbers(left, right).then_some(Type::Float),
     }
 }
 
@@ -82,18 +76,12 @@ fn both(left: Type, right: Type, wanted: Type) -> bool
 fn is_number(of: Type) -> bool
     ensures { Decides result (Number of) }
 {
-    match of {
-        Type::Int | Type::Float => true,
-        _ => false,
-    }
+    matches!(of, Type::Int | Type::Float)
 }
 
 // Whether the type is one of references: a class, or null.
 fn is_reference(of: Type) -> bool
     ensures { Decides result (Reference of) }
 {
-    match of {
-        Type::Class(_) | Type::Null => true,
-        _ => false,
-    }
+    matches!(of, Type::Class(_) | Type::Null)
 }

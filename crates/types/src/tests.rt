@@ -1,7 +1,7 @@
 // A chain of three classes, and the operators on a few pairs of types.
 use super::class::Class;
+use super::hierarchy::Hierarchy;
 use super::operators::{allows_instance_of, binary_type, unary_type};
-use super::subtypes::{is_assignable, is_castable, is_subtype};
 use table::view::{BinaryOp, UnaryOp};
 use values::types::Type;
 
@@ -14,6 +14,7 @@ const CHAIN: [Class; 3] = [
 
 #[test]
 fn subtypes(rt: HostRuntime) {
+    let chain = Hierarchy { classes: &CHAIN };
     for (lower, upper, expected) in [
         (Type::Class(2), Type::Class(0), true),
         (Type::Class(1), Type::Class(2), false),
@@ -23,12 +24,13 @@ fn subtypes(rt: HostRuntime) {
         (Type::Null, Type::Class(3), false),
         (Type::Int, Type::Float, false),
     ] {
-        assert!(rt; is_subtype(&CHAIN, lower, upper) == expected);
+        assert!(rt; chain.is_subtype(lower, upper) == expected);
     }
 }
 
 #[test]
 fn conversions(rt: HostRuntime) {
+    let chain = Hierarchy { classes: &CHAIN };
     for (from, to, assigned, cast) in [
         (Type::Int, Type::Float, true, true),
         (Type::Float, Type::Int, false, true),
@@ -37,8 +39,8 @@ fn conversions(rt: HostRuntime) {
         (Type::Void, Type::Void, true, false),
         (Type::Boolean, Type::Int, false, false),
     ] {
-        assert!(rt; is_assignable(&CHAIN, to, from) == assigned);
-        assert!(rt; is_castable(&CHAIN, from, to) == cast);
+        assert!(rt; chain.is_assignable(to, from) == assigned);
+        assert!(rt; chain.is_castable(from, to) == cast);
     }
 }
 

@@ -1,11 +1,7 @@
 use Rattle.std.proofs.Common.{sym, subst, inl, inr}
-use Rattle.table.proofs.Answered.{said_yes, said_no}
+use Rattle.table.proofs.Answered.{said_yes}
 use Rattle.types.specs.Operators.{Number}
-use Rattle.types.proofs.Typing.{number_types}
 use Rattle.types.proofs.operators.is_number.Goals as goal
 
 pub returns-in-Int : goal.returns-in-Int
 returns-in-Int c = said_yes (elim c.in-Int.is [ inl e ↦ subst Number (sym e) Number.int | inr e ↦ subst Number (sym e) Number.float ])
-
-pub returns-in_default : goal.returns-in_default
-returns-in_default c = said_no (number_types c.in_default.not-Int c.in_default.not-Float)

@@ -1,11 +1,7 @@
 use Rattle.std.proofs.Common.{sym, subst, inl, inr}
-use Rattle.table.proofs.Answered.{said_yes, said_no}
+use Rattle.table.proofs.Answered.{said_yes}
 use Rattle.types.specs.Operators.{Reference}
-use Rattle.types.proofs.Typing.{reference_types}
 use Rattle.types.proofs.operators.is_reference.Goals as goal
 
 pub returns-in-Class : goal.returns-in-Class
 returns-in-Class c = said_yes (elim c.in-Class.is [ inl p ↦ subst Reference (sym p.1) Reference.class | inr e ↦ subst Reference (sym e) Reference.null ])
-
-pub returns-in_default : goal.returns-in_default
-returns-in_default c = said_no (reference_types c.in_default.not-Class c.in_default.not-Null)
