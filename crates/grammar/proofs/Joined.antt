@@ -13,7 +13,7 @@ use Rattle.library.specs.declared.member.Member.{Member}
 use Rattle.library.specs.Members.{called}
 use Rattle.grammar.specs.Ready.{DeclaredAt}
 use Rattle.grammar.specs.PassTwo.{Scope, MethodIs, MethodsAre, method}
-use Rattle.grammar.specs.PassTwo.MethodsAre.{none, more}
+use Rattle.grammar.specs.Members.MembersAre.{none, more}
 
 pub middle_part : {X : Type 0} (xs ys zs : List X) (i j : ℕ) → i ≡ length xs → j ≡ length (xs ++ ys) → between i j (xs ++ ys ++ zs) ≡ ys
 middle_part xs ys zs i j a b =

@@ -1,10 +1,7 @@
 pub mod Options
 pub mod PassesOne
 pub mod Exits
-pub mod Made
 pub mod Gathered
-pub mod FieldNames
-pub mod MethodNames
 pub mod Params
 pub mod Joined
 pub mod Stages

@@ -30,6 +30,9 @@ module _ (T : List Node) (cs : List Class) (e first : ℕ) where
   pub listed_none : (s : Signature) → s ≡ signature [] → FewParams T first e → Listed s first
   listed_none s h r = record { types = []; made = h; rest = r.0; few = omega (arith, r.1); row = r.2; good = λ us p. p; bad = λ f b. b }
 
+  pub listed_at : (s : Signature) (p q : ℕ) → p ≡ q → Listed s p → Listed s q
+  listed_at s p q e l = subst (Listed s) e l
+
   pub listed_room : (s : Signature) (q : ℕ) → q < e → Listed s q → s.count < 8
   listed_room s q h p = let n = row_next T OneParam e _ q p.row h in omega (arith, p.few, n.count, ap (λ z. z.count) p.made)
 

@@ -1,5 +1,5 @@
 -- Pass one up to some class.
-use Rattle.std.proofs.Common.{◌≡◌, ℕ, ◌+◌, ◌<◌, ◌≤◌, List, length, sym, refl, subst, arith}
+use Rattle.std.proofs.Common.{◌≡◌, ℕ, ◌+◌, ◌<◌, ◌≤◌, List, length, sym, subst, arith}
 use Rattle.std.proofs.lemmas.List.{length_push}
 use Rattle.table.specs.Shape.{end_of}
 use Rattle.table.specs.declared.kinds.Node.{Node}
@@ -25,9 +25,6 @@ module _ (T : List Node) (e first : ℕ) (start : Contents) where
     pub bad : (f : BatchFault) → BreaksOne T e w q f → BreaksOne T e start first f
     pub longer : length start.classes ≤ length w.classes
     pub kept : (m : ℕ) → Untouched (length start.classes) m start w
-
-  pub declared_none : Room T start first e → Declared start first
-  declared_none r = record { room = r; good = λ u d. d; bad = λ f b. b; longer = omega arith; kept = λ m s a b. refl }
 
   pub declared_more : (w v : Contents) (q : ℕ) → length w.layouts ≡ length w.classes → q < e → Declares T w q v → Declared w q → Declared v (end_of T q)
   declared_more w v q l h d p =

@@ -4,13 +4,12 @@ use Rattle.std.proofs.lemmas.List.{length-append}
 use Rattle.table.specs.Shape.{end_of}
 use Rattle.table.specs.declared.kinds.Node.{Node}
 use Rattle.table.specs.declared.kinds.Class.TheVariants.{OneClass}
-use Rattle.parts.specs.Parts.{Is}
 use Rattle.parts.proofs.Rows.{row_next, row_done}
 use Rattle.library.specs.Contents.{Contents}
 use Rattle.library.specs.Counting.{Untouched}
 use Rattle.library.proofs.Untouched.{untouched_trans}
 use Rattle.grammar.specs.declared.fault.BatchFault.{BatchFault}
-use Rattle.grammar.specs.Ready.{Begins, Numbered}
+use Rattle.grammar.specs.Ready.{Numbered}
 use Rattle.grammar.specs.PassTwo.{Completes, CompletesAll, BreaksTwo, class}
 use Rattle.grammar.specs.PassTwo.CompletesAll.{none, more}
 use Rattle.grammar.specs.PassTwo.BreaksTwo.{later}
@@ -33,15 +32,6 @@ module _ (T : List Node) (n e number first : ℕ) (start : Contents) where
     pub later_number : number ≤ k
     pub longer : length start.members ≤ length w.members
     pub untouched : Untouched number (length start.members) start w
-
-  pub completed_none : Numbered T start n number first e → Completed start number first
-  completed_none r = record { numbered = r; good = λ u d. d; bad = λ f b. b; later_number = omega arith; longer = omega arith; untouched = λ s a b. refl }
-
-  pub completed_begins : (w : Contents) (k q : ℕ) → q < e → Completed w k q → Is T OneClass q × Begins T w n k q
-  completed_begins w k q h p =
-      let r = p.numbered in
-      let x = row_next T OneClass e _ q r.row h in
-      (x.here, record { positive = r.positive; known = omega (arith, r.known, x.count); kept = r.kept; room = r.room })
 
   pub completed_more : (w v : Contents) (k q : ℕ) → q < e → Completes T n w k q v → Untouched k (length w.members) w v → length v.members + q ≤ length w.members + end_of T q → Completed w k q → Completed v (k + 1) (end_of T q)
   completed_more w v k q h d t f p =

@@ -18,11 +18,12 @@ use Rattle.grammar.specs.declared.fault.RuleFault.{RuleFault}
 use Rattle.grammar.specs.declared.fault.MemberFault.{MemberFault}
 use Rattle.grammar.specs.Faults.{broken, in_member}
 use Rattle.grammar.specs.PassTwo.{Scope, Names, Hides, visible, FieldIs, FieldsAre, ParamIs, ParamsAre, MayOverride, MethodIs, MethodsAre}
-use Rattle.grammar.specs.PassTwo.{BreaksField, BreaksFields, BreaksParam, BreaksParams, BreaksMethod, BreaksMethods}
+use Rattle.grammar.specs.Members.{MembersAre, MembersBreak, none, more, alone, repeated, here, later}
+use Rattle.grammar.specs.PassTwo.{FieldNamed, MethodNamed, BreaksField, BreaksFields, BreaksParam, BreaksParams, BreaksMethod, BreaksMethods}
 use Rattle.grammar.specs.PassTwo.{field, param, method, hides, params, overrides}
 use Rattle.grammar.proofs.OneParts.{FieldParts, MethodParts, ParamParts, ListParts, field_parts_one, method_parts_one, param_parts_one, list_parts_one}
-use Rattle.grammar.proofs.Verdicts.{Single, Known, Sought, Guard, Then, Inside, Loop, good, bad, on, off, result, fault, done, stop, turn}
-use Rattle.grammar.proofs.Verdicts.{is_one, known_one, sought_one, guard_one, then_one, inside_one, loop_one}
+use Rattle.grammar.proofs.Verdicts.{Single, Judged, Known, Sought, Guard, Then, Inside, Loop, good, bad, on, off, result, fault, done, stop, turn}
+use Rattle.grammar.proofs.Verdicts.{is_one, known_one, sought_one, guard_one, then_one, inside_one, loop_one, single_by}
 
 module _ (T : List Node) (cs : List OneClass) where
   -- rule 0.2
@@ -71,15 +72,31 @@ module _ (T : List Node) (cs : List OneClass) where
   breaks_params (BreaksParams.here h b) ts = stop h (off (breaks_param b))
   breaks_params (BreaksParams.later h d z) ts = turn h (on (parameter d) refl) (breaks_params z _)
 
--- Rules 2.4 and 2.6: members one behind the other, no two with one name. A member has parts, one of them its Identifier.
-module _ (T : List Node) (r : Rule) {I : Type 0} (Parts : ℕ → I → Type 0) (ident : I → ℕ) (Item : ℕ → ℕ → Result Member RuleFault → Type 0) where
+-- Rules 2.4 and 2.6: members one behind the other, no two with one name. Each has one Identifier and one declaration.
+module _ (T : List Node) (r : Rule) (Named : ℕ → ℕ → Type 0) (Is : ℕ → ℕ → Member → Type 0) (Breaks : ℕ → RuleFault → Type 0) where
   abbrev MemberTurn : List Member → ℕ → Result (List Member) MemberFault → Type 0
-  MemberTurn F q =
-      Then (Known (Parts q)) λ i.
-      Inside (in_member (symbol_at T (ident i))) (Then (Item (length F) q) λ m. Guard (lookup called F m.name ≡ None) (F ++ m ∷ []) (broken r (ident i)))
+  MemberTurn M q =
+      Then (Known (Named q)) λ b.
+      Inside (in_member (symbol_at T b)) (Then (Judged (Is (length M) q) (Breaks q)) λ m. Guard (lookup called M m.name ≡ None) (M ++ m ∷ []) (broken r b))
 
-  member_turn_one : ((q : ℕ) (i j : I) → Parts q i → Parts q j → i ≡ j) → ((n q : ℕ) → Single (Item n q)) → (F : List Member) (q : ℕ) → Single (MemberTurn F q)
-  member_turn_one parts item F q = then_one _ _ (known_one _ (parts q)) λ i. inside_one _ _ (then_one _ _ (item _ q) λ m. guard_one _ _ _)
+  abbrev pub MembersFrom : ℕ → List Member → ℕ → Result (List Member) MemberFault → Type 0
+  MembersFrom e = Loop (λ M. M) (end_of T) MemberTurn e
+
+  module _ (named : (i q : ℕ) (m : Member) → Is i q m → (b : ℕ) × Named q b) where
+    member_turn : (M : List Member) {q : ℕ} {m : Member} → Is (length M) q m → lookup called M m.name ≡ None → MemberTurn M q (Ok (M ++ m ∷ []))
+    member_turn M d l = on (good (named _ _ _ d).1) (result (on (good d) (good (l, refl))))
+
+    pub members_are : {e : ℕ} {M N : List Member} {q : ℕ} → MembersAre T Is e M q N → MembersFrom e M q (Ok N)
+    members_are none = done
+    members_are (more h d n z) = turn h (member_turn _ d n) (members_are z)
+
+    pub members_break : {e : ℕ} {M : List Member} {q : ℕ} {f : MemberFault} → MembersBreak T r Named Is Breaks e M q f → MembersFrom e M q (Err f)
+    members_break (here h v (alone b)) = stop h (on (good v) (fault (off (bad b))))
+    members_break (here h v (repeated d n)) = stop h (on (good v) (fault (on (good d) (bad (λ l. grind arith, refl)))))
+    members_break (later h d n z) = turn h (member_turn _ d n) (members_break z)
+
+  pub members_from_one : ((q b c : ℕ) → Named q b → Named q c → b ≡ c) → ((i q : ℕ) → Single (Judged (Is i q) (Breaks q))) → (e : ℕ) (M : List Member) (q : ℕ) → Single (MembersFrom e M q)
+  members_from_one names item e = loop_one _ _ _ e (λ M q. then_one _ _ (known_one _ (names q)) λ b. inside_one _ _ (then_one _ _ (item _ q) λ m. guard_one _ _ _))
 
 module _ (T : List Node) (x : Scope) where
   -- rule 2.5
@@ -91,9 +108,6 @@ module _ (T : List Node) (x : Scope) where
       (record { name = symbol_at T i.2; definition = record { nature = FieldNature (visible i.0) x.number (x.cells + n); of = t }; node = Some (x.kept + p) })
       (broken Field p)
 
-  field_at_one : (n p : ℕ) → Single (FieldAt n p)
-  field_at_one n p = then_one _ _ (known_one _ (field_parts_one T p)) λ i. then_one _ _ (not_void_one T x.classes _ _ _) λ t. guard_one _ _ _
-
   field_at : {n p : ℕ} {m : Member} → FieldIs T x n p m → FieldAt n p (Ok m)
   field_at (field e n v h) = on (good e) (on (on (good n) (good (v, refl))) (good (h, refl)))
 
@@ -102,26 +116,23 @@ module _ (T : List Node) (x : Scope) where
   breaks_field _ (BreaksField.void e n) = on (good e) (off (on (good n) (bad (λ h. h refl, refl))))
   breaks_field _ (hides e n v h) = on (good e) (on (on (good n) (good (v, refl))) (bad (h, refl)))
 
-  abbrev FieldTurn : List Member → ℕ → Result (List Member) MemberFault → Type 0
-  FieldTurn = MemberTurn T Fields (FieldParts T) (λ i. i.2) FieldAt
-
-  field_turn : (F : List Member) {q : ℕ} {m : Member} → FieldIs T x (length F) q m → lookup called F m.name ≡ None → FieldTurn F q (Ok (F ++ m ∷ []))
-  field_turn F (field e n v h) l = on (good e) (result (on (field_at (field e n v h)) (good (l, refl))))
+  field_one : (n p : ℕ) → Single (Judged (FieldIs T x n p) (BreaksField T x p))
+  field_one n p = single_by (FieldAt n p) (then_one _ _ (known_one _ (field_parts_one T p)) λ i. then_one _ _ (not_void_one T x.classes _ _ _) λ t. guard_one _ _ _) (λ m. field_at) (λ f. breaks_field n)
 
   abbrev pub FieldsFrom : ℕ → List Member → ℕ → Result (List Member) MemberFault → Type 0
-  FieldsFrom e = Loop (λ F. F) (end_of T) FieldTurn e
+  FieldsFrom = MembersFrom T Fields (FieldNamed T) (FieldIs T x) (BreaksField T x)
 
   pub fields_from_one : (e : ℕ) (F : List Member) (q : ℕ) → Single (FieldsFrom e F q)
-  fields_from_one e = loop_one _ _ _ e (member_turn_one T _ _ _ _ (field_parts_one T) field_at_one)
+  fields_from_one = members_from_one T _ _ _ _ (λ q b c s t. let u = s.3 in let v = t.3 in cc) field_one
+
+  field_named : (i q : ℕ) (m : Member) → FieldIs T x i q m → (b : ℕ) × FieldNamed T q b
+  field_named i q m (field e n v h) = (_, (_, _, _, e))
 
   pub fields_are : {e : ℕ} {F G : List Member} {q : ℕ} → FieldsAre T x e F q G → FieldsFrom e F q (Ok G)
-  fields_are FieldsAre.none = done
-  fields_are (FieldsAre.more h d n z) = turn h (field_turn _ d n) (fields_are z)
+  fields_are = members_are T _ _ _ _ field_named
 
   pub breaks_fields : {e : ℕ} {F : List Member} {q : ℕ} {f : MemberFault} → BreaksFields T x e F q f → FieldsFrom e F q (Err f)
-  breaks_fields (BreaksFields.here h v b) = stop h (on (good v) (fault (off (breaks_field _ b))))
-  breaks_fields (BreaksFields.repeated h v d n) = stop h (on (good v) (fault (on (field_at d) (bad (λ l. grind arith, refl)))))
-  breaks_fields (BreaksFields.later h d n z) = turn h (field_turn _ d n) (breaks_fields z)
+  breaks_fields = members_break T _ _ _ _ field_named
 
   -- rule 2.7
   abbrev MethodAt : ℕ → Result Member RuleFault → Type 0
@@ -134,14 +145,6 @@ module _ (T : List Node) (x : Scope) where
       (record { name = symbol_at T i.1; definition = record { nature = MethodNature (signature ts); of = t }; node = Some (x.kept + p) })
       (broken Method p)
 
-  method_at_one : (p : ℕ) → Single (MethodAt p)
-  method_at_one p =
-      then_one _ _ (known_one _ (method_parts_one T p)) λ i.
-      then_one _ _ (naming_one T x.classes _) λ t.
-      then_one _ _ (known_one _ (list_parts_one T _)) λ l.
-      then_one _ _ (loop_one _ _ _ _ (param_turn_one T x.classes) _ _) λ ts.
-      guard_one _ _ _
-
   method_at : {p : ℕ} {m : Member} → MethodIs T x p m → MethodAt p (Ok m)
   method_at (method e n l ps o) = on (good e) (on (good n) (on (good l) (on (params_are T x.classes ps) (good (o, refl)))))
 
@@ -150,23 +153,27 @@ module _ (T : List Node) (x : Scope) where
   breaks_method (params e n l b) = on (good e) (on (good n) (on (good l) (off (breaks_params T x.classes b []))))
   breaks_method (overrides e n l ps o) = on (good e) (on (good n) (on (good l) (on (params_are T x.classes ps) (bad (o, refl)))))
 
-  abbrev MethodTurn : List Member → ℕ → Result (List Member) MemberFault → Type 0
-  MethodTurn = MemberTurn T Methods (MethodParts T) (λ i. i.1) (λ n. MethodAt)
-
-  method_turn : (M : List Member) {q : ℕ} {m : Member} → MethodIs T x q m → lookup called M m.name ≡ None → MethodTurn M q (Ok (M ++ m ∷ []))
-  method_turn M (method e n v ps o) l = on (good e) (result (on (method_at (method e n v ps o)) (good (l, refl))))
+  method_one : (i p : ℕ) → Single (Judged (MethodIs T x p) (BreaksMethod T x p))
+  method_one i p =
+      single_by (MethodAt p)
+      (then_one _ _ (known_one _ (method_parts_one T p)) λ i.
+      then_one _ _ (naming_one T x.classes _) λ t.
+      then_one _ _ (known_one _ (list_parts_one T _)) λ l.
+      then_one _ _ (loop_one _ _ _ _ (param_turn_one T x.classes) _ _) λ ts.
+      guard_one _ _ _)
+      (λ m. method_at) (λ f. breaks_method)
 
   abbrev pub MethodsFrom : ℕ → List Member → ℕ → Result (List Member) MemberFault → Type 0
-  MethodsFrom e = Loop (λ M. M) (end_of T) MethodTurn e
+  MethodsFrom = MembersFrom T Methods (MethodNamed T) (λ i. MethodIs T x) (BreaksMethod T x)
 
   pub methods_from_one : (e : ℕ) (M : List Member) (q : ℕ) → Single (MethodsFrom e M q)
-  methods_from_one e = loop_one _ _ _ e (member_turn_one T _ _ _ _ (method_parts_one T) (λ n. method_at_one))
+  methods_from_one = members_from_one T _ _ _ _ (λ q b c s t. let u = s.3 in let v = t.3 in cc) method_one
+
+  method_named : (i q : ℕ) (m : Member) → MethodIs T x q m → (b : ℕ) × MethodNamed T q b
+  method_named i q m (method e n v ps o) = (_, (_, _, _, e))
 
   pub methods_are : {e : ℕ} {M N : List Member} {q : ℕ} → MethodsAre T x e M q N → MethodsFrom e M q (Ok N)
-  methods_are MethodsAre.none = done
-  methods_are (MethodsAre.more h d n z) = turn h (method_turn _ d n) (methods_are z)
+  methods_are = members_are T _ _ _ _ method_named
 
   pub breaks_methods : {e : ℕ} {M : List Member} {q : ℕ} {f : MemberFault} → BreaksMethods T x e M q f → MethodsFrom e M q (Err f)
-  breaks_methods (BreaksMethods.here h v b) = stop h (on (good v) (fault (off (breaks_method b))))
-  breaks_methods (BreaksMethods.repeated h v d n) = stop h (on (good v) (fault (on (method_at d) (bad (λ l. grind arith, refl)))))
-  breaks_methods (BreaksMethods.later h d n z) = turn h (method_turn _ d n) (breaks_methods z)
+  breaks_methods = members_break T _ _ _ _ method_named

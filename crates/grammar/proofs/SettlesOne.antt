@@ -10,7 +10,7 @@ use Rattle.grammar.specs.declared.fault.Rule.TheVariants.{Class}
 use Rattle.grammar.specs.declared.fault.Pass.TheVariants.{One}
 use Rattle.grammar.specs.declared.fault.RuleFault.{RuleFault}
 use Rattle.grammar.specs.declared.fault.BatchFault.{BatchFault}
-use Rattle.grammar.specs.Faults.{broken, in_member, in_class}
+use Rattle.grammar.specs.Faults.{broken, in_no_member, in_class}
 use Rattle.grammar.specs.PassOne.{Declares, DeclaresAll, BreaksClass, BreaksOne, class, none, more, no_super, taken, alone, here, later}
 use Rattle.grammar.specs.Settled.{SettledOne}
 use Rattle.grammar.proofs.OneParts.{ClassParts, class_parts_one}
@@ -40,7 +40,7 @@ module _ (T : List Node) where
 
   -- rule 1.2, one class: the class is around its fault, and no member is
   abbrev ClassTurn : Contents → ℕ → Result Contents BatchFault → Type 0
-  ClassTurn w q = Then (Known (ClassParts T q)) λ i. Inside (in_class One (symbol_at T i.0)) (Inside (in_member 0) (Declaring w q))
+  ClassTurn w q = Then (Known (ClassParts T q)) λ i. Inside (in_class One (symbol_at T i.0)) (Inside in_no_member (Declaring w q))
 
   class_turn_one : (w : Contents) (q : ℕ) → Single (ClassTurn w q)
   class_turn_one w q = then_one _ _ (known_one _ (class_parts_one T q)) λ i. inside_one _ _ (inside_one _ _ (declaring_one w q))

@@ -24,6 +24,13 @@ judged_one G B x f c _ _ (good a) (bad b) = absurd (c _ _ a b)
 judged_one G B x f c _ _ (bad a) (good b) = absurd (c _ _ b a)
 judged_one G B x f c _ _ (bad a) (bad b) = ap Err (f _ _ a b)
 
+-- what another relation with one verdict follows from has one too
+pub single_by : {X F : Type 0} {G : X → Type 0} {B : F → Type 0} (V : Result X F → Type 0) → Single V → ((x : X) → G x → V (Ok x)) → ((f : F) → B f → V (Err f)) → Single (Judged G B)
+single_by V one g b _ _ (good x) (good y) = one _ _ (g _ x) (g _ y)
+single_by V one g b _ _ (good x) (bad y) = one _ _ (g _ x) (b _ y)
+single_by V one g b _ _ (bad x) (good y) = one _ _ (b _ x) (g _ y)
+single_by V one g b _ _ (bad x) (bad y) = one _ _ (b _ x) (b _ y)
+
 -- what is known by R; where R knows nothing, no verdict
 abbrev pub Known : {X F : Type 0} → (X → Type 0) → Result X F → Type 0
 Known R = Judged R (λ f. ⊥)

@@ -1,5 +1,5 @@
 -- The first two passes over a whole batch: what pass one leaves for pass two, and how a library is put back.
-use Rattle.std.proofs.Common.{◌≡◌, ℕ, ◌+◌, List, length, refl, ap, ◌∙◌, arith}
+use Rattle.std.proofs.Common.{◌≡◌, ℕ, ◌+◌, List, length, refl, ap, ◌∙◌, subst, arith}
 use Rattle.std.proofs.lemmas.List.{length-append, length_push, take_all, take_at}
 use Rattle.table.specs.declared.kinds.Node.{Node}
 use Rattle.table.specs.declared.kinds.Class.TheVariants.{OneClass}
@@ -8,7 +8,7 @@ use Rattle.parts.proofs.Rows.{row_next, row_done}
 use Rattle.library.specs.declared.counts.Counts.{Counts}
 use Rattle.library.specs.declared.held.Library.{Library}
 use Rattle.library.specs.Contents.{Contents, contents, with_nodes}
-use Rattle.library.specs.Counting.{counts_of, cut_to}
+use Rattle.library.specs.Counting.{Untouched, counts_of, cut_to}
 use Rattle.library.proofs.Kept.{same_contents}
 use Rattle.grammar.specs.PassOne.{Declares, DeclaresAll, Room, class}
 use Rattle.grammar.specs.PassOne.DeclaresAll.{none, more}
@@ -40,7 +40,7 @@ module _ (l : Library) (T : List Node) where
       record {
         count = r.count;
         row = r.row;
-        positive = omega (arith, l.some, l.classes.ok.0);
+        positive = omega (arith, l.ordered.some, l.classes.ok.0);
         known = omega (arith, x.classes);
         kept = omega (arith, ap length x.nodes, length-append w.nodes T);
         room = omega (arith, ap length x.members, l.few_members, l.members.ok.0, l.nodes.ok.0);
@@ -60,3 +60,13 @@ module _ (l : Library) (T : List Node) where
 
   pub members_left : (u : Contents) (q e : ℕ) → Room T (contents l) q e → DeclaresAll T e (with_nodes (contents l) T) q u → length u.members ≡ length (contents l).members
   members_left u q e r d = ap length (all_left r.count r.row d).members
+
+  -- so it is after pass one, whatever that made of the classes, where the nodes were kept
+  pub put_back_one : (s : Counts) (n u : Contents) → s ≡ counts_of (contents l) → n ≡ with_nodes (contents l) T → ((m : ℕ) → Untouched (length n.classes) m n u) → cut_to s u ≡ contents l
+  put_back_one s n u e k h = put_back s u e (h s.members s (omega (arith, ap (λ x. x.classes) e, ap (λ x. length x.classes) k)) (omega arith) ∙ ap (cut_to s) k)
+
+  -- and after pass two
+  pub put_back_two : (s : Counts) (n u v : Contents) (q e : ℕ) → s ≡ counts_of (contents l) → n ≡ with_nodes (contents l) T → ((m : ℕ) → Untouched (length n.classes) m n u) → Room T (contents l) q e → DeclaresAll T e n q u → Untouched s.classes (length u.members) u v → cut_to s v ≡ contents l
+  put_back_two s n u v q e c k h r d y =
+      let m = members_left u q e r (subst (λ w. DeclaresAll T e w q u) k d) in
+      y s (omega arith) (omega (arith, ap (λ x. x.members) c, m)) ∙ put_back_one s n u c k h

@@ -1,5 +1,5 @@
 -- Broken rules: their numbers, and how a fault is carried up.
-use Rattle.std.specs.Prelude.{ℕ}
+use Rattle.std.specs.Prelude.{ℕ, Some, None}
 use Rattle.grammar.specs.declared.fault.Rule.{Rule}
 use Rattle.grammar.specs.declared.fault.Rule.TheVariants.{Identifier, TypeName, Class, Members, Fields, Field, Methods, Method, Param, Params, Var, Return, Assigned, Condition, Printed, Binary, Unary, Cast, InstanceOf, New, This, Selection, Protected, Variable, FieldName, MethodCall, MethodName, ExtraArgument, MissingArgument}
 use Rattle.grammar.specs.declared.fault.Pass.{Pass}
@@ -49,10 +49,14 @@ pass_number Three = 3
 abbrev pub broken : Rule → ℕ → RuleFault
 broken r p = record { rule = r; node = p }
 
+-- inside no member
+abbrev pub in_no_member : RuleFault → MemberFault
+in_no_member f = record { member = None; fault = f }
+
 -- inside the member of that symbol
 abbrev pub in_member : ℕ → RuleFault → MemberFault
-in_member x f = record { member = x; fault = f }
+in_member x f = record { member = Some x; fault = f }
 
 -- inside the class of that symbol, in a pass
 abbrev pub in_class : Pass → ℕ → MemberFault → BatchFault
-in_class n x f = record { pass = n; class = x; fault = f }
+in_class n x f = record { pass = n; class = Some x; fault = f }

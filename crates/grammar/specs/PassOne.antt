@@ -15,7 +15,7 @@ use Rattle.grammar.specs.declared.fault.Pass.TheVariants.{One}
 use Rattle.grammar.specs.declared.fault.RuleFault.{RuleFault}
 use Rattle.grammar.specs.declared.fault.MemberFault.{MemberFault}
 use Rattle.grammar.specs.declared.fault.BatchFault.{BatchFault}
-use Rattle.grammar.specs.Faults.{broken, in_member, in_class}
+use Rattle.grammar.specs.Faults.{broken, in_no_member, in_class}
 
 -- Rule 1.3: the super-class is a class declared before, and nothing has the name yet. The class joins with no members.
 pub data Declares (T : List Node) (w : Contents) : ℕ → Contents → Type 0 where
@@ -41,7 +41,7 @@ pub data BreaksClass (T : List Node) (w : Contents) : ℕ → RuleFault → Type
 
 -- No member is around a class.
 pub data BreaksAlone (T : List Node) (w : Contents) (p : ℕ) : MemberFault → Type 0 where
-  alone : {b : RuleFault} → BreaksClass T w p b → BreaksAlone T w p (in_member 0 b)
+  alone : {b : RuleFault} → BreaksClass T w p b → BreaksAlone T w p (in_no_member b)
 
 -- How pass one is broken first, from q to e. A class is around itself.
 pub data BreaksOne (T : List Node) (e : ℕ) : Contents → ℕ → BatchFault → Type 0 where

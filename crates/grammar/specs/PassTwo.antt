@@ -1,5 +1,5 @@
 -- Pass two: the fields of the classes and the signatures of their methods.
-use Rattle.std.specs.Prelude.{◌≡◌, ℕ, suc, ◌+◌, ◌<◌, Bool, true, false, cond, List, [], ◌∷◌, ◌++◌, length, Some, None, Option, ◌≢◌, slice_set}
+use Rattle.std.specs.Prelude.{◌≡◌, ℕ, suc, ◌+◌, ◌<◌, Bool, true, cond, List, [], ◌∷◌, ◌++◌, length, Some, None, Option, ◌≢◌, slice_set}
 use Rattle.table.specs.Shape.{end_of}
 use Rattle.table.specs.View.{view}
 use Rattle.table.specs.declared.kinds.Node.{Node}
@@ -18,6 +18,7 @@ use Rattle.library.specs.declared.definition.Nature.{Nature}
 use Rattle.library.specs.declared.definition.Nature.TheVariants.{Param as ParamNature, Var, Method as MethodNature, Field as FieldNature}
 use Rattle.library.specs.declared.member.Member.{Member}
 use Rattle.library.specs.Signatures.{signature}
+use Rattle.library.specs.Natures.{is_field}
 use Rattle.library.specs.Members.{called, layout_at}
 use Rattle.library.specs.Contents.{Contents}
 use Rattle.library.specs.Environments.{type_env, environment}
@@ -27,6 +28,7 @@ use Rattle.grammar.specs.declared.fault.RuleFault.{RuleFault}
 use Rattle.grammar.specs.declared.fault.MemberFault.{MemberFault}
 use Rattle.grammar.specs.declared.fault.BatchFault.{BatchFault}
 use Rattle.grammar.specs.Faults.{broken, in_member, in_class}
+use Rattle.grammar.specs.Members.{MembersAre, MembersBreak}
 
 -- What the declarations of a class are checked against.
 pub record Scope : Type 0 where
@@ -48,12 +50,6 @@ scope w k j n = record { classes = w.classes; inherited = environment w j; cells
 abbrev pub Names : List Node → List OneClass → ℕ → Ty → Type 0
 Names T cs p t = type_env cs (symbol_at T p) ≡ Some t
 
-abbrev pub is_field : Nature → Bool
-is_field ParamNature = false
-is_field Var = false
-is_field (MethodNature s) = false
-is_field (FieldNature v c i) = true
-
 -- a field may hide what is inherited under its name, if that is a field
 abbrev pub Hides : Option Member → Type 0
 Hides None = Unit {0}
@@ -69,10 +65,8 @@ pub data FieldIs (T : List Node) (x : Scope) (i : ℕ) : ℕ → Member → Type
       FieldIs T x i p (record { name = symbol_at T b; definition = record { nature = FieldNature (visible v) x.number (x.cells + i); of = t }; node = Some (x.kept + p) })
 
 -- Rule 2.4: the fields from q to e, behind the fields F: no two have one name.
-pub data FieldsAre (T : List Node) (x : Scope) (e : ℕ) : List Member → ℕ → List Member → Type 0 where
-  none : {F : List Member} → FieldsAre T x e F e F
-  more : {F G : List Member} {q : ℕ} {m : Member} → q < e → FieldIs T x (length F) q m → lookup called F m.name ≡ None →
-      FieldsAre T x e (F ++ m ∷ []) (end_of T q) G → FieldsAre T x e F q G
+abbrev pub FieldsAre : List Node → Scope → ℕ → List Member → ℕ → List Member → Type 0
+FieldsAre T x = MembersAre T (FieldIs T x)
 
 -- Rule 2.9: a parameter is not void.
 pub data ParamIs (T : List Node) (cs : List OneClass) : ℕ → Ty → Type 0 where
@@ -107,10 +101,8 @@ pub data MethodIs (T : List Node) (x : Scope) : ℕ → Member → Type 0 where
       MethodIs T x p (record { name = symbol_at T b; definition = record { nature = MethodNature (signature ts); of = t }; node = Some (x.kept + p) })
 
 -- Rule 2.6: the methods from q to e, behind the methods M: no two have one name.
-pub data MethodsAre (T : List Node) (x : Scope) (e : ℕ) : List Member → ℕ → List Member → Type 0 where
-  none : {M : List Member} → MethodsAre T x e M e M
-  more : {M N : List Member} {q : ℕ} {m : Member} → q < e → MethodIs T x q m → lookup called M m.name ≡ None →
-      MethodsAre T x e (M ++ m ∷ []) (end_of T q) N → MethodsAre T x e M q N
+abbrev pub MethodsAre : List Node → Scope → ℕ → List Member → ℕ → List Member → Type 0
+MethodsAre T x = MembersAre T (λ i. MethodIs T x)
 
 -- the class k has the fields F and the methods M
 abbrev pub with_members : Contents → ℕ → ℕ → List Member → List Member → Contents
@@ -143,14 +135,13 @@ pub data BreaksField (T : List Node) (x : Scope) : ℕ → RuleFault → Type 0 
   hides : {p a b c : ℕ} {v : Bool} {t : Ty} → view T p ≡ DeclField v a b c → Names T x.classes a t → (t ≢ Void) →
       (Hides (x.inherited (symbol_at T b)) → ⊥) → BreaksField T x p (broken Field p)
 
--- How the fields from q to e break a rule first. A field is around itself; a repeated name is reported at the second Identifier.
-pub data BreaksFields (T : List Node) (x : Scope) (e : ℕ) : List Member → ℕ → MemberFault → Type 0 where
-  here : {F : List Member} {q a b c : ℕ} {v : Bool} {f : RuleFault} → q < e → view T q ≡ DeclField v a b c → BreaksField T x q f →
-      BreaksFields T x e F q (in_member (symbol_at T b) f)
-  repeated : {F : List Member} {q a b c : ℕ} {v : Bool} {m o : Member} → q < e → view T q ≡ DeclField v a b c → FieldIs T x (length F) q m →
-      lookup called F m.name ≡ Some o → BreaksFields T x e F q (in_member (symbol_at T b) (broken Fields b))
-  later : {F : List Member} {q : ℕ} {m : Member} {f : MemberFault} → q < e → FieldIs T x (length F) q m → lookup called F m.name ≡ None →
-      BreaksFields T x e (F ++ m ∷ []) (end_of T q) f → BreaksFields T x e F q f
+-- the field at q has its Identifier at b
+abbrev pub FieldNamed : List Node → ℕ → ℕ → Type 0
+FieldNamed T q b = (v : Bool) × (a : ℕ) × (c : ℕ) × (view T q ≡ DeclField v a b c)
+
+-- How the fields from q to e break a rule first.
+abbrev pub BreaksFields : List Node → Scope → ℕ → List Member → ℕ → MemberFault → Type 0
+BreaksFields T x = MembersBreak T Fields (FieldNamed T) (FieldIs T x) (BreaksField T x)
 
 -- How rule 2.9 is broken first.
 pub data BreaksParam (T : List Node) (cs : List OneClass) : ℕ → RuleFault → Type 0 where
@@ -170,14 +161,13 @@ pub data BreaksMethod (T : List Node) (x : Scope) : ℕ → RuleFault → Type 0
       view T c ≡ Elements q e → ParamsAre T x.classes e [] q ts → (MayOverride x.classes (signature ts) t (x.inherited (symbol_at T b)) → ⊥) →
       BreaksMethod T x p (broken Method p)
 
+-- the method at q has its Identifier at b
+abbrev pub MethodNamed : List Node → ℕ → ℕ → Type 0
+MethodNamed T q b = (a : ℕ) × (c : ℕ) × (d : ℕ) × (view T q ≡ DeclMethod a b c d)
+
 -- How the methods from q to e break a rule first.
-pub data BreaksMethods (T : List Node) (x : Scope) (e : ℕ) : List Member → ℕ → MemberFault → Type 0 where
-  here : {M : List Member} {q a b c d : ℕ} {f : RuleFault} → q < e → view T q ≡ DeclMethod a b c d → BreaksMethod T x q f →
-      BreaksMethods T x e M q (in_member (symbol_at T b) f)
-  repeated : {M : List Member} {q a b c d : ℕ} {m o : Member} → q < e → view T q ≡ DeclMethod a b c d → MethodIs T x q m →
-      lookup called M m.name ≡ Some o → BreaksMethods T x e M q (in_member (symbol_at T b) (broken Methods b))
-  later : {M : List Member} {q : ℕ} {m : Member} {f : MemberFault} → q < e → MethodIs T x q m → lookup called M m.name ≡ None →
-      BreaksMethods T x e (M ++ m ∷ []) (end_of T q) f → BreaksMethods T x e M q f
+abbrev pub BreaksMethods : List Node → Scope → ℕ → List Member → ℕ → MemberFault → Type 0
+BreaksMethods T x = MembersBreak T Methods (MethodNamed T) (λ i. MethodIs T x) (BreaksMethod T x)
 
 -- A method m with the name of a field is reported at its own Identifier.
 pub data SharedName (T : List Node) (n : ℕ) (m : Member) : MemberFault → Type 0 where

@@ -1,21 +1,20 @@
 // Pass two: the fields of a class.
-ghost use Rattle.std.specs.Prelude.{◌≡◌, ◌+◌, ◌<◌, ◌≤◌, [], length, Decides, MatchResult};
+ghost use Rattle.std.specs.Prelude.{◌≡◌, Decides};
 ghost use Rattle.table.specs.declared.kinds.Class.TheVariants.{OneField};
-ghost use Rattle.parts.specs.Parts.{Is, RowOf};
-ghost use Rattle.library.specs.Contents.{contents, more_members, added};
-ghost use Rattle.grammar.specs.Ready.{Ready};
-ghost use Rattle.grammar.specs.PassTwo.{scope, visible, Hides, FieldIs, FieldsAre, BreaksField, BreaksFields};
+ghost use Rattle.grammar.specs.declared.fault.Rule.TheVariants.{Fields as FieldsRule};
+ghost use Rattle.grammar.specs.PassTwo.{visible, Hides, FieldIs, FieldNamed, BreaksField};
 
-use super::fault::{MemberFault, Rule, RuleFault, around};
-use super::members::add_new;
+use super::fault::{Rule, RuleFault};
+use super::members::MemberKind;
 use super::site::{Site, type_at};
 use library::definition::{Definition, Nature, Visibility};
 use library::held::Library;
 use library::member::Member;
-use parts::{Span, field_parts, symbol};
-use table::kinds::Node;
+use parts::Shaped;
 use values::types::Type;
 
+// The visibility of a field, by whether it is protected. A function and no `From<bool>`, which would not show what true
+// stands for.
 fn visibility(protected: bool) -> Visibility
     ensures { result ≡ visible protected }
 {
@@ -30,81 +29,50 @@ fn visibility(protected: bool) -> Visibility
 fn may_hide(inherited: Option<Member>) -> bool
     ensures { Decides result (Hides inherited) }
 {
-    match inherited {
-        None => true,
-        Some(member) => match member.definition.nature {
-            Nature::Field {
-                visibility: _,
-                class: _,
-                cell: _,
-            } => true,
-            Nature::Param | Nature::Var | Nature::Method(_) => false,
-        },
-    }
+    inherited.is_none_or(|member| member.definition.nature.is_field())
 }
 
-// The field that is declared at `p`, behind so many others of its class.
-fn field(
-    nodes: &[Node],
-    p: usize,
-    before: usize,
-    site: Site,
-    library: &Library,
-) -> Result<Member, RuleFault>
-    requires ready { Ready nodes.now (contents library.now) site.kept site.parent }
-    requires field { Is nodes.now OneField p }
-    requires before { before ≤ 1024 }
-    ensures { MatchResult result (λ m. FieldIs nodes.now (scope (contents library.now) site.class site.parent site.kept) before p m) (λ f. BreaksField nodes.now (scope (contents library.now) site.class site.parent site.kept) p f) }
-{
-    let parts = field_parts(nodes, p);
-    let of = type_at(nodes, parts.of, library)?;
-    let name = symbol(nodes, parts.name);
-    if of == Type::Void {
-        return Err(RuleFault {
-            rule: Rule::Field,
-            node: p,
-        });
-    }
-    if !may_hide(library.member_named(site.parent, name)) {
-        return Err(RuleFault {
-            rule: Rule::Field,
-            node: p,
-        });
-    }
-    let nature = Nature::Field {
-        visibility: visibility(parts.protected),
-        class: site.class,
-        cell: library.cells(site.parent) + before,
-    };
-    Ok(Member {
-        name,
-        definition: Definition { nature, of },
-        node: Some(site.kept + p),
-    })
-}
+// The fields of a class.
+pub struct Fields;
 
-// Declares the fields of a class, in order.
-pub fn declare_fields(
-    nodes: &[Node],
-    list: Span,
-    site: Site,
-    library: &mut Library,
-) -> Result<(), MemberFault>
-    requires ready { Ready nodes.now (contents library.old) site.kept site.parent }
-    requires row { RowOf nodes.now OneField list.first list.end }
-    requires room { length (contents library.old).members ≤ site.kept + list.first }
-    ensures rules { MatchResult result (λ _. FieldsAre nodes.now (scope (contents library.old) site.class site.parent site.kept) list.end [] list.first (added (contents library.old) (contents library.new))) (λ f. BreaksFields nodes.now (scope (contents library.old) site.class site.parent site.kept) list.end [] list.first f) }
-    ensures grows { contents library.new ≡ more_members (contents library.old) (added (contents library.old) (contents library.new)) }
-    ensures few { length (contents library.new).members + list.first ≤ length (contents library.old).members + list.end }
-{
-    let first = library.member_count();
-    let mut q = list.first;
-    while q < list.end {
-        let place = field_parts(nodes, q).name;
-        let before = library.member_count() - first;
-        let member = around(symbol(nodes, place), field(nodes, q, before, site, library))?;
-        add_new(library, first, member, Rule::Fields, place)?;
-        q += nodes[q].size as usize;
+impl MemberKind for Fields {
+    ghost class = { OneField };
+
+    ghost named = { FieldNamed };
+
+    ghost is = { λ T x i p m. FieldIs T x i p m };
+
+    ghost breaks = { λ T x p f. BreaksField T x p f };
+
+    ghost REPEATED = { FieldsRule };
+
+    const REPEATED: Rule = Rule::Fields;
+
+    fn identifier(batch: Shaped<'_>, p: usize) -> usize {
+        batch.field(p).name
     }
-    Ok(())
+
+    fn declared(
+        site: Site<'_>,
+        p: usize,
+        before: usize,
+        library: &Library,
+    ) -> Result<Member, RuleFault> {
+        let parts = site.batch.field(p);
+        let of = type_at(site.batch, parts.of, library)?;
+        let name = site.batch.symbol(parts.name);
+        if of == Type::Void || !may_hide(library.member_named(site.parent, name)) {
+            return Err(Rule::Field.at(p));
+        }
+        let nature = Nature::Field {
+            visibility: visibility(parts.protected),
+            class: site.class,
+            cell: library.cells(site.parent) + before,
+        };
+        Ok(Member {
+            name,
+            definition: Definition { nature, of },
+            node: Some(site.kept + p),
+        })
+    }
 }

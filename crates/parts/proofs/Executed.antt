@@ -2,9 +2,6 @@
 use Rattle.std.proofs.Common.{◌≡◌, ℕ, ◌+◌, ◌-◌, ◌≤◌, Bool, true, false, List, ◌++◌, get_or, replicate, sym, refl, ap, ◌∙◌, arith}
 use borrow.Author.Tests.{clash}
 use Rattle.std.proofs.lemmas.List.{get_or-append_right, get_or-replicate, length-replicate}
-use Rattle.std.proofs.lemmas.Bool.Decides.{nat_tests}
-use Rattle.table.specs.Kinds.{admits}
-use Rattle.table.specs.declared.kinds.Class.TheVariants.{Instruction as AnyInstruction}
 use Rattle.table.specs.Shape.{node_at}
 use Rattle.table.specs.View.{view, heads, head_of}
 use Rattle.table.specs.declared.kinds.Node.{Node}
@@ -13,7 +10,7 @@ use Rattle.table.specs.declared.view.Instruction.{Instruction}
 use Rattle.table.specs.declared.view.Instruction.TheVariants.{Print, Println, IfThenElse, NoOperation, Return, While, Evaluate}
 use Rattle.table.specs.declared.view.View.{View}
 use Rattle.table.specs.declared.view.View.TheVariants.{Program, List as Elements, DeclClass, DeclField, DeclMethod, DeclParam, DeclVar, Initialization, NoInitialization, MethodBody, Main, EmptyMain, Execute, Nothing}
-use Rattle.table.proofs.Moving.{getD_mapped}
+use Rattle.std.proofs.Math.ListN.{get_or-map}
 use Rattle.parts.proofs.Known.{seen}
 
 abbrev evaluates : Instruction → Bool
@@ -46,10 +43,10 @@ behind : (m n k : ℕ) → m ≤ k → k + 1 ≤ m + n → get_or (replicate m f
 behind m n k h l = get_or-append_right (replicate m false) (replicate n true) m k false (length-replicate m false) h ∙ get_or-replicate n (k - m) true false (omega arith)
 
 instruction_kind : (k w a b c d e : ℕ) → 13 ≤ k → k ≤ 48 → executes (λ i. true) (head_of k w a b c d e) ≡ true
-instruction_kind k w a b c d e h l = sym (getD_mapped (executes (λ i. true)) (heads w a b c d e) k Nothing) ∙ behind 13 36 k h (omega arith)
+instruction_kind k w a b c d e h l = sym (get_or-map (executes (λ i. true)) (heads w a b c d e) k Nothing) ∙ behind 13 36 k h (omega arith)
 
 expression_kind : (k w a b c d e : ℕ) → 19 ≤ k → k ≤ 48 → executes evaluates (head_of k w a b c d e) ≡ true
-expression_kind k w a b c d e h l = sym (getD_mapped (executes evaluates) (heads w a b c d e) k Nothing) ∙ behind 19 30 k h (omega arith)
+expression_kind k w a b c d e h l = sym (get_or-map (executes evaluates) (heads w a b c d e) k Nothing) ∙ behind 19 30 k h (omega arith)
 
 pub is_instruction : (T : List Node) (p : ℕ) → 13 ≤ (node_at T p).kind → (node_at T p).kind ≤ 48 → executes (λ i. true) (view T p) ≡ true
 is_instruction T p h l = ap (executes (λ i. true)) (seen T p _ refl) ∙ instruction_kind (node_at T p).kind _ _ _ _ _ _ h l
@@ -81,6 +78,3 @@ evaluated NoOperation e = absurd (clash e)
 evaluated (Return a) e = absurd (clash e)
 evaluated (While a b) e = absurd (clash e)
 evaluated (Evaluate x) e = (x, refl)
-
-pub instruction_admitted : (n : Node) → 13 ≤ n.kind → n.kind ≤ 48 → admits AnyInstruction n ≡ true
-instruction_admitted n h l = grind (arith, nat_tests)

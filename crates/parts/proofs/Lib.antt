@@ -2,3 +2,4 @@ pub mod Known
 pub mod Rows
 pub mod Lists
 pub mod Executed
+pub mod Walks

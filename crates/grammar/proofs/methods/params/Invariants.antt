@@ -1,10 +1,11 @@
-use Rattle.std.proofs.Common.{◌-◌}
+use Rattle.parts.specs.Walk.{Over}
 use Rattle.library.specs.Contents.{contents}
 use Rattle.grammar.proofs.Params.{Listed}
 use Rattle.grammar.proofs.methods.params.Given as goal
 
-abbrev pub invariant-loop-q : goal.invariant-loop-q
-invariant-loop-q l = Listed l.nodes (contents l.library).classes l.list.end l.list.first l.types l.q
-
-abbrev pub decreases-loop-q : goal.decreases-loop-q
-decreases-loop-q l = l.list.end - l.q
+abbrev pub invariant-loop-p : goal.invariant-loop-p
+invariant-loop-p l =
+    record {
+      over : Over l.batch.nodes.now l.fn.list.end l.p-iterator;
+      listed : Listed l.batch.nodes.now (contents l.library).classes l.fn.list.end l.fn.list.first l.types l.p-iterator.next;
+    }

@@ -1,47 +1,61 @@
-use Rattle.std.proofs.Common.{◌≡◌, length, sym, ap, ◌∙◌, subst, arith}
+use Rattle.std.proofs.Common.{◌≡◌, length, sym, subst, rules, arith}
+use Rattle.std.proofs.lemmas.Result.{MatchResult-at_ok, MatchResult-at_err}
 use Rattle.table.specs.declared.kinds.Class.TheVariants.{OneClass}
+use Rattle.parts.proofs.Walks.{turn, turn_next, walked}
 use Rattle.library.specs.Contents.{contents}
-use Rattle.parts.proofs.Rows.{row_next}
-use Rattle.parts.specs.Parts.{symbol_at}
 use Rattle.library.specs.Counting.{Untouched}
 use Rattle.grammar.specs.declared.fault.Pass.TheVariants.{One}
-use Rattle.grammar.specs.PassOne.{BreaksOne, here}
-use Rattle.grammar.proofs.Exits.{exit, carried_ok, carried_err}
-use Rattle.grammar.proofs.PassesOne.{declared_none, declared_more, declared_all}
+use Rattle.grammar.specs.declared.fault.InClass.{InClass}
+use Rattle.grammar.specs.PassOne.{BreaksAlone, BreaksOne, alone, here}
+use Rattle.grammar.proofs.Exits.{exit, mapped, around_class}
+use Rattle.grammar.proofs.PassesOne.{Declared, declared_more, declared_all}
 use Rattle.grammar.proofs.SettlesOne.{settled_one}
 use Rattle.grammar.proofs.pass_one.declare_classes.Goals as goal
 
-pub loop-q-init : goal.loop-q-init
-loop-q-init c = declared_none _ _ _ _ c.requires.room
+pub class-requires : goal.class-requires
+class-requires c =
+    let i = c.loop-p.invariant in
+    record { class = (turn_next _ _ _ i.over OneClass _ _ _ i.declared.room.row c.in-Some.ensures.steps).here }
 
-pub class_parts-requires : goal.class_parts-requires
-class_parts-requires c = record { formed = c.requires.formed; class = (row_next _ OneClass _ _ _ c.loop-q.invariant.room.row c.loop-q-test.true).here }
+pub declare_class-requires-clause-class : goal.declare_class-requires-clause-class
+declare_class-requires-clause-class c =
+    let i = c.loop-p.invariant in
+    (turn_next _ _ _ i.over OneClass _ _ _ i.declared.room.row c.in-Some.ensures.steps).here
 
-pub declare_alone-requires : goal.declare_alone-requires
-declare_alone-requires c =
-    let n = row_next _ OneClass _ _ _ c.loop-q.invariant.room.row c.loop-q-test.true in
-    record { formed = c.requires.formed; class = n.here; room = omega (arith, n.count, c.loop-q.invariant.room.fits) }
-
-pub returns-in_err-around : goal.returns-in_err-around
-returns-in_err-around c =
-    let T = c.args.nodes.now in
-    let i = c.loop-q.invariant in
-    let h = carried_err _ _ _ c.declare_alone.result c.around.result _ c.around.ensures c.declare_alone.ensures c.in_err-around.was in
-    let b = i.bad _ (here c.loop-q-test.true c.class_parts.ensures.view h.1.0) in
-    let y = c.in_err-around.field-0.0 in
-    let d : y.0 ≡ record { pass = One; class = symbol_at T c.class_parts.result.name } = h.0 ∙ ap (λ x. record { pass = One; class = x }) c.symbol.ensures in
-    let e = subst (λ z. BreaksOne T c.args.list.end (contents c.args.library.now) c.args.list.first (record { pass = z.pass; class = z.class; fault = y.1 })) (sym d) b in
+pub returns-in_err-map_err : goal.returns-in_err-map_err
+returns-in_err-map_err c =
+    let T = c.args.batch.nodes.now in
+    let l = c.args.library.now in
+    let t = turn _ _ _ c.loop-p.invariant.over _ _ c.in-Some.ensures.steps in
+    let w : InClass = record { pass = One; class = c.symbol.result } in
+    let m = mapped _ _ _ c.declare_class.result c.map_err.result c.map_err.ensures.cases c.declare_class.ensures in
+    let n = mapped _ _ _ c.map_err.result c.map_err-in-loop-p.result c.map_err-in-loop-p.ensures.cases m in
+    let y = c.in_err-map_err.field-0.0 in
+    let o = MatchResult-at_err _ _ y c.in_err-map_err.was n in
+    let i = subst (Declared T c.args.list.end c.args.list.first (contents l) (contents c.loop-p.library)) t.at c.loop-p.invariant.declared in
+    let a = subst (BreaksAlone T (contents c.loop-p.library) c.in-Some.p) (sym o.1.2) (alone o.1.1.0) in
+    let b = i.bad _ (here t.before c.class.ensures.view a) in
+    let u : y ≡ (w, o.0) = search rules in
     record {
-      rules = exit _ _ c.from_residual.result _ c.from_residual.ensures.1 e;
+      rules = exit _ _ c.from_residual.result _ c.from_residual.ensures.1 (around_class (BreaksOne T c.args.list.end (contents l) c.args.list.first) y One _ _ _ u c.symbol.ensures b);
       settled = settled_one _ _ _ _;
-      untouched = λ m. subst (λ v. Untouched (length (contents c.args.library.now).classes) m (contents c.args.library.now) v) (sym h.1.1) (i.kept m);
+      untouched = λ m. subst (λ v. Untouched (length (contents l).classes) m (contents l) v) (sym o.1.1.1) (i.kept m);
     }
 
-pub loop-q-preserved : goal.loop-q-preserved
-loop-q-preserved c =
-    let l = c.loop-q.library in
-    let h = carried_ok _ _ _ c.declare_alone.result c.around.result _ c.around.ensures c.declare_alone.ensures c.in_ok-around.was in
-    declared_more _ _ _ _ (contents l) (contents c.declare_alone.new.library) c.loop-q.q (omega (arith, l.laid, l.layouts.ok.0, l.classes.ok.0)) c.loop-q-test.true h c.loop-q.invariant
+pub loop-p-preserved : goal.loop-p-preserved
+loop-p-preserved c =
+    let T = c.args.batch.nodes.now in
+    let l = c.loop-p.library in
+    let t = turn _ _ _ c.loop-p.invariant.over _ _ c.in-Some.ensures.steps in
+    let m = mapped _ _ _ c.declare_class.result c.map_err.result c.map_err.ensures.cases c.declare_class.ensures in
+    let n = mapped _ _ _ c.map_err.result c.map_err-in-loop-p.result c.map_err-in-loop-p.ensures.cases m in
+    let d = MatchResult-at_ok _ _ c.in_ok-map_err.field-0 c.in_ok-map_err.was n in
+    let b = Declared T c.args.list.end c.args.list.first (contents c.args.library.now) in
+    let i = subst (b (contents l)) t.at c.loop-p.invariant.declared in
+    let j = declared_more _ _ _ _ (contents l) (contents c.declare_class.new.library) c.in-Some.p (omega (arith, l.laid, l.layouts.ok.0, l.classes.ok.0)) t.before d i in
+    record { over = t.over; declared = subst (b (contents c.declare_class.new.library)) t.next j }
 
 pub returns : goal.returns
-returns c = record { rules = declared_all _ _ _ _ _ _ c.loop-q-test.false c.loop-q.invariant; settled = settled_one _ _ _ _; untouched = c.loop-q.invariant.kept }
+returns c =
+    let i = c.loop-p.invariant in
+    record { rules = declared_all _ _ _ _ _ _ (walked _ _ _ i.over c.in-None.ensures.steps.0) i.declared; settled = settled_one _ _ _ _; untouched = i.declared.kept }

@@ -1,10 +1,11 @@
-use Rattle.std.proofs.Common.{◌-◌}
+use Rattle.parts.specs.Walk.{Over}
 use Rattle.library.specs.Contents.{contents}
 use Rattle.grammar.proofs.PassesOne.{Declared}
 use Rattle.grammar.proofs.pass_one.declare_classes.Given as goal
 
-abbrev pub invariant-loop-q : goal.invariant-loop-q
-invariant-loop-q l = Declared l.nodes l.list.end l.list.first (contents l.initial.library) (contents l.library) l.q
-
-abbrev pub decreases-loop-q : goal.decreases-loop-q
-decreases-loop-q l = l.list.end - l.q
+abbrev pub invariant-loop-p : goal.invariant-loop-p
+invariant-loop-p l =
+    record {
+      over : Over l.batch.nodes.now l.fn.list.end l.p-iterator;
+      declared : Declared l.batch.nodes.now l.fn.list.end l.fn.list.first (contents l.initial.library) (contents l.library) l.p-iterator.next;
+    }

@@ -1,10 +1,12 @@
-use Rattle.std.proofs.Common.{◌-◌}
+use Rattle.std.specs.Iterator.Adapters.{zip_first, zip_second}
+use Rattle.parts.specs.Walk.{Over}
 use Rattle.library.specs.Contents.{contents}
 use Rattle.grammar.proofs.PassesTwo.{Completed}
 use Rattle.grammar.proofs.pass_two.complete_classes.Given as goal
 
-abbrev pub invariant-loop-q : goal.invariant-loop-q
-invariant-loop-q l = Completed l.nodes l.kept l.list.end l.number l.list.first (contents l.initial.library) (contents l.library) l.class l.q
-
-abbrev pub decreases-loop-q : goal.decreases-loop-q
-decreases-loop-q l = l.list.end - l.q
+abbrev pub invariant-loop-p : goal.invariant-loop-p
+invariant-loop-p l =
+    record {
+      over : Over l.batch.nodes.now l.fn.list.end (zip_first l.p-iterator);
+      completed : Completed l.batch.nodes.now l.kept l.fn.list.end l.fn.number l.fn.list.first (contents l.initial.library) (contents l.library) (zip_second l.p-iterator).start (zip_first l.p-iterator).next;
+    }

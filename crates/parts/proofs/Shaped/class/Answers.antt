@@ -1,0 +1,30 @@
+use Rattle.std.proofs.Common.{refl, ◌∙◌, rules, arith}
+use Rattle.table.specs.Shape.{node_at}
+use Rattle.table.specs.View.{named}
+use Rattle.table.specs.declared.view.View.TheVariants.{DeclClass}
+use Rattle.table.specs.declared.kinds.Class.TheVariants.{OneClass}
+use Rattle.parts.proofs.Known.{kind_is, seen, children_are}
+use Rattle.parts.proofs.Shaped.class.Goals as goal
+
+pub unreachable-requires : goal.unreachable-requires
+unreachable-requires c =
+    let T = c.args.self.nodes.now in
+    let p = c.args.p in
+    let k = kind_is OneClass 3 (node_at T p) refl refl c.requires.class.admitted in
+    c.in_default.not-DeclClass _ _ _ _ (c.view_of.ensures.value ∙ seen T p 3 k)
+
+pub returns : goal.returns
+returns c =
+    let T = c.args.self.nodes.now in
+    let p = c.args.p in
+    let k = kind_is OneClass 3 (node_at T p) refl refl c.requires.class.admitted in
+    let s = c.in-DeclClass.ensures.children (λ e. omega (arith, k, e)) in
+    let i = children_are T _ _ (named (DeclClass _ _ _ _)) (c.args.self.formed.laid p c.requires.class.within).within s in
+    record {
+      view = search rules;
+      name = i.0;
+      parent = i.1.0;
+      fields = i.1.1.0;
+      methods = i.1.1.1.0;
+      stand = s;
+    }
