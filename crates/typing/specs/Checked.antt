@@ -1,13 +1,16 @@
 -- What the functions of pass three answer.
-use Rattle.std.specs.Prelude.{◌≡◌, ℕ, ◌+◌, ◌<◌, ◌≤◌, List, length, IfSome, Option, Result, MatchResult}
+use Rattle.std.specs.Prelude.{◌≡◌, ℕ, ◌+◌, ◌<◌, ◌≤◌, List, [], ◌∷◌, length, IfSome, Option, Result, MatchResult}
 use Rattle.table.specs.Shape.{Formed, node_at}
+use Rattle.table.specs.View.{view, named_expression}
 use Rattle.table.specs.declared.kinds.Node.{Node}
 use Rattle.table.specs.declared.kinds.Class.{Class}
+use Rattle.table.specs.declared.view.Expression.{Expression}
 use Rattle.values.specs.declared.types.«Type».{«Type» as Ty}
 use Rattle.values.specs.declared.types.«Type».TheVariants.{Void}
 use Rattle.parts.specs.Parts.{Is}
 use Rattle.library.specs.Contents.{Contents}
 use Rattle.grammar.specs.declared.fault.RuleFault.{RuleFault}
+use Rattle.typing.specs.Views.{evaluates}
 use Rattle.typing.specs.Settings.{Setting, Log, with_log}
 use Rattle.typing.specs.Expressions.{Expr, Lvalue, Rvalue, Args, BreaksExpr, BreaksLvalue, BreaksRvalue, BreaksArgs}
 
@@ -21,6 +24,17 @@ pub record Ready (T : List Node) (w : Contents) (n : ℕ) (k : Option ℕ) : Typ
 pub record Below (T : List Node) (p : ℕ) (c : Class) (q : ℕ) : Type 0 where
   pub is : Is T c q
   pub smaller : (node_at T q).size < (node_at T p).size
+
+-- nodes of these classes stand at these places, each in a part smaller than that of p
+abbrev pub AllBelow : List Node → ℕ → List (Class × ℕ) → Type 0
+AllBelow T p [] = Unit {0}
+AllBelow T p ((c, q) ∷ xs) = Below T p c q × AllBelow T p xs
+
+-- the expression e stands at p, its children in smaller parts
+pub record IsExpr (T : List Node) (p : ℕ) (e : Expression) : Type 0 where
+  pub within : p < length T
+  pub view : view T p ≡ evaluates e
+  pub children : AllBelow T p (named_expression e)
 
 -- accepted by a relation J, with the attributes that it gives
 pub record Accepted (J : Ty → Log → Type 0) (n : ℕ) (w v : Contents) (t : Ty) : Type 0 where

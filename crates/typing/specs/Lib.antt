@@ -3,3 +3,5 @@ pub mod Settings
 pub mod Expressions
 pub mod Settled
 pub mod Checked
+pub mod OneReady
+pub mod Checking

@@ -43,9 +43,9 @@ abbrev pub Log : Type 0
 Log = List (ℕ × Attribute)
 
 -- the attributes of a library that kept n nodes before the batch, with those of the log
-abbrev pub noted : ℕ → Log → List Attribute → List Attribute
+abbrev pub noted : ℕ → Log → List (Option Attribute) → List (Option Attribute)
 noted n [] as' = as'
-noted n ((p, a) ∷ ws) as' = noted n ws (slice_set as' (n + p) a)
+noted n ((p, a) ∷ ws) as' = noted n ws (slice_set as' (n + p) (Some a))
 
 -- a library with the attributes of a log
 abbrev pub with_log : ℕ → Log → Contents → Contents
