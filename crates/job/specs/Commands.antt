@@ -1,12 +1,13 @@
 -- The command that the words of a line say.
-use Rattle.std.specs.Prelude.{◌≡◌, ℕ, Bool, cond, List, [], ◌∷◌, length, take, Ok, Err, codes, Result, nat_lt}
+use Rattle.std.specs.Prelude.{ℕ, cond, List, [], ◌∷◌, length, Some, None, Ok, Err, Option, codes, Result, nat_lt}
 use Rattle.std.specs.Str.{bytes_eq}
 use Rattle.table.specs.declared.kinds.Node.{Node}
 use Rattle.job.specs.declared.command.Command.{Command}
-use Rattle.job.specs.declared.command.Command.TheVariants.{Nothing, Node as AddNode, Shape}
+use Rattle.job.specs.declared.command.Command.TheVariants.{Node as AddNode, Shape}
 use Rattle.job.specs.declared.wrong.Wrong.{Wrong}
 use Rattle.job.specs.declared.wrong.Wrong.TheVariants.{UnknownCommand, MissingWord, WordTooMany, LineTooLong}
 use Rattle.job.specs.Numbers.{decimal_of}
+use Rattle.job.specs.Kept.{Keeps}
 use Rattle.job.specs.Words.{before_comment, words_of}
 
 -- what f makes of a value, unless something was wrong before
@@ -40,19 +41,14 @@ named name ws =
     (Err UnknownCommand))
 
 -- a line without words says nothing
-abbrev pub command_of : List (List ℕ) → Result Command Wrong
-command_of [] = Ok Nothing
-command_of (name ∷ ws) = named name ws
+abbrev pub command_of : List (List ℕ) → Result (Option Command) Wrong
+command_of [] = Ok None
+command_of (name ∷ ws) = and_then (named name ws) (λ c. Ok (Some c))
 
 -- what a line says: 65,536 bytes are the most that it may have
-abbrev pub line_of : List ℕ → Result Command Wrong
+abbrev pub line_of : List ℕ → Result (Option Command) Wrong
 line_of text = cond (nat_lt 65536 (length text)) (Err LineTooLong) (command_of (words_of (before_comment text)))
 
--- what is kept of a line: its front, and whether there is more
-pub record Carries (front : List ℕ) (long : Bool) (text : List ℕ) : Type 0 where
-  pub kept_front : front ≡ take 65536 text
-  pub more : long ≡ nat_lt 65536 (length text)
-
--- what a line says, by what is kept of it
-abbrev pub line_says : Bool → List ℕ → Result Command Wrong
-line_says long front = cond long (Err LineTooLong) (command_of (words_of (before_comment front)))
+-- what is kept of a line: its front, by which it tells whether it is too long
+abbrev pub Carries : List ℕ → List ℕ → Type 0
+Carries front text = Keeps 65537 front text

@@ -1,5 +1,5 @@
 -- The number that a word writes in decimal digits.
-use Rattle.std.specs.Prelude.{ℕ, ◌+◌, ◌-◌, ◌*◌, Bool, cond, ◌&&◌, List, [], ◌∷◌, length, Ok, Err, Result, nat_le, nat_lt}
+use Rattle.std.specs.Prelude.{◌≡◌, ℕ, ◌+◌, ◌-◌, ◌*◌, Bool, cond, ◌&&◌, List, [], ◌∷◌, length, Ok, Err, Result, nat_le, nat_lt, MatchBool, MatchResult}
 use Rattle.std.specs.Str.{all_ascii_digits}
 use Rattle.job.specs.declared.wrong.Wrong.{Wrong}
 use Rattle.job.specs.declared.wrong.Wrong.TheVariants.{NotANumber, NumberTooLarge}
@@ -16,3 +16,8 @@ number_after n (b ∷ bs) = number_after (10 * n + (b - 48)) bs
 -- what a word says where a number up to `most` is wanted
 abbrev pub decimal_of : List ℕ → ℕ → Result ℕ Wrong
 decimal_of w most = cond (plain w) (cond (nat_le (number_after 0 w) most) (Ok (number_after 0 w)) (Err NumberTooLarge)) (Err NotANumber)
+
+-- what becomes of a word where its digits are read as `gives` says: what is not read is too large
+abbrev pub Reads : {T E : Type 0} → (List ℕ → Result T E → Type 0) → List ℕ → Result T Wrong → Type 0
+Reads {E = E} gives w r =
+    MatchBool (plain w) ((read : Result _ E) × gives w read × MatchResult read (λ n. r ≡ Ok n) (λ e. r ≡ Err NumberTooLarge)) (r ≡ Err NotANumber)

@@ -1,21 +1,15 @@
 -- A job as it is played: what a session stands for, and what a byte and the end of a line do.
-use Rattle.std.specs.Prelude.{◌≡◌, ℕ, ◌+◌, ◌-◌, ◌^◌, min, List, [], ◌∷◌, ◌++◌, vec_items, Option}
+use Rattle.std.specs.Prelude.{◌≡◌, ℕ, ◌+◌, ◌-◌, ◌^◌, min, List, [], ◌∷◌, ◌++◌, Option}
 use Rattle.table.specs.declared.kinds.Node.{Node}
 use Rattle.job.specs.Commands.{Carries, line_of}
 use Rattle.job.specs.Play.{Holds, LineReplies, line_after}
 use Rattle.job.specs.declared.answer.Answer.{Answer}
 use Rattle.job.specs.declared.session.Session.{Session}
 
-abbrev pub front_of : Session → List ℕ
-front_of s = vec_items s.line.bytes
-
-abbrev pub nodes_of : Session → List Node
-nodes_of s = vec_items s.batch.nodes
-
 -- s has read `text` of its line, and the nodes of its batch are `written`
 pub record Stands (s : Session) (text : List ℕ) (written : List Node) : Type 0 where
-  pub carries : Carries (front_of s) s.line.too_long text
-  pub holds : Holds (nodes_of s) written
+  pub carries : Carries s.line text
+  pub holds : Holds s.batch written
 
 -- t is s with a byte more in its line
 pub record Longer (s : Session) (b : ℕ) (t : Session) : Type 0 where

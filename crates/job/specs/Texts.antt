@@ -1,18 +1,9 @@
 -- The texts of the answers.
 use Rattle.std.specs.Prelude.{ℕ, List, ◌++◌, Some, None, Ok, Err, codes, decimal, Option}
-use Rattle.table.specs.Shape.{refusal}
-use Rattle.table.specs.declared.shape.ShapeFault.{ShapeFault}
-use Rattle.table.specs.declared.shape.ShapeFault.TheVariants.{Length, Layout, Word, Depth}
+use Rattle.table.specs.Shape.{refusal, place_of}
 use Rattle.job.specs.declared.answer.Answer.{Answer}
 use Rattle.job.specs.declared.answer.Answer.TheVariants.{Shape, Line}
 use Rattle.job.specs.Faults.{text_of}
-
--- the faulty position, where the fault has one
-abbrev pub place_of : ShapeFault → Option ℕ
-place_of Length = None
-place_of (Layout p) = Some p
-place_of (Word p) = Some p
-place_of (Depth p) = Some p
 
 abbrev pub refused_text : ℕ → Option ℕ → List ℕ
 refused_text n None = codes "shape: refused " ++ decimal n

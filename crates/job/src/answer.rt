@@ -1,6 +1,6 @@
 // What the program prints for a line.
-ghost use Rattle.std.specs.Prelude.{◌≡◌, Some};
-ghost use Rattle.job.specs.Texts.{answer_text, place_of};
+ghost use Rattle.std.specs.Prelude.{Some};
+ghost use Rattle.job.specs.Texts.{answer_text};
 
 use super::wrong::Wrong;
 use std::fmt;
@@ -19,30 +19,15 @@ impl fmt::Display for Answer {
 
     fn fmt<W: fmt::Write>(&self, f: &mut fmt::Formatter<W>) -> fmt::Result {
         match *self {
-            Answer::Shape(shape) => match shape {
-                Ok(()) => write!(f, "shape: ok"),
-                Err(fault) => {
-                    let number = fault.number();
-                    match place_of(fault) {
-                        None => write!(f, "shape: refused {number}"),
-                        Some(at) => write!(f, "shape: refused {number} at {at}"),
-                    }
+            Answer::Shape(Ok(())) => write!(f, "shape: ok"),
+            Answer::Shape(Err(fault)) => {
+                let number = fault.number();
+                match fault.at() {
+                    None => write!(f, "shape: refused {number}"),
+                    Some(at) => write!(f, "shape: refused {number} at {at}"),
                 }
-            },
-            Answer::Line { number, wrong } => {
-                let text = wrong.text();
-                write!(f, "line {number}: {text}")
             }
+            Answer::Line { number, wrong } => write!(f, "line {number}: {wrong}"),
         }
-    }
-}
-
-// The faulty position, where the fault has one.
-fn place_of(fault: ShapeFault) -> Option<usize>
-    ensures { result ≡ place_of fault }
-{
-    match fault {
-        ShapeFault::Length => None,
-        ShapeFault::Layout { at } | ShapeFault::Word { at } | ShapeFault::Depth { at } => Some(at),
     }
 }

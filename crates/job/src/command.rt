@@ -1,52 +1,54 @@
 // The commands of a job, and how a line says one.
 ghost use Rattle.std.specs.Prelude.{◌≡◌};
-ghost use Rattle.std.specs.Str.{bytes_eq};
-ghost use Rattle.job.specs.Commands.{command_of, node_of, node_by};
-ghost use Rattle.job.specs.Words.{before_comment, words_of};
+ghost use Rattle.job.specs.Commands.{line_of, command_of, node_of, node_by};
 
 use super::number::decimal;
 use super::words::Words;
 use super::wrong::Wrong;
 use table::kinds::Node;
 
+// The most bytes that a line may have.
+pub const LONGEST_LINE: usize = 65536;
+
 #[derive(Clone, Copy)]
 pub enum Command {
-    // a line without words
-    Nothing,
     // adds a node to the batch
     Node(Node),
     // checks the shape of the batch, and starts an empty one
     Shape,
 }
 
-// The command that a line says.
-pub fn read_command(line: &[u8]) -> Result<Command, Wrong>
-    ensures { result ≡ command_of (words_of (before_comment line.now)) }
+// The command that a line says, if it has words.
+pub fn read_line(line: &[u8]) -> Result<Option<Command>, Wrong>
+    ensures { result ≡ line_of line.now }
 {
-    let mut words = Words::new(line);
-    let Some(name) = words.next_word() else {
-        return Ok(Command::Nothing);
-    };
-    if is_word(name, b"node") {
-        Ok(Command::Node(read_node(&mut words)?))
-    } else if is_word(name, b"shape") {
-        words.end()?;
-        Ok(Command::Shape)
-    } else {
-        Err(Wrong::UnknownCommand)
+    if line.len() > LONGEST_LINE {
+        return Err(Wrong::LineTooLong);
     }
+    read_command(&mut Words::new(line))
 }
 
-// Whether a word is this text, byte by byte.
-fn is_word(word: &[u8], text: &[u8]) -> bool
-    ensures { result ≡ bytes_eq word.now text.now }
+// The command of which these are the words.
+fn read_command(words: &mut Words) -> Result<Option<Command>, Wrong>
+    ensures { result ≡ command_of words.old }
 {
-    word == text
+    let Some(name) = words.next() else {
+        return Ok(None);
+    };
+    let command = match name {
+        b"node" => Command::Node(read_node(words)?),
+        b"shape" => {
+            words.end()?;
+            Command::Shape
+        }
+        _ => return Err(Wrong::UnknownCommand),
+    };
+    Ok(Some(command))
 }
 
 // The node whose kind, size and word are the words that are left.
 fn read_node(words: &mut Words) -> Result<Node, Wrong>
-    ensures { result ≡ node_of (words_of words.old.rest.now) }
+    ensures { result ≡ node_of words.old }
 {
     let kind = words.needed_word()?;
     let size = words.needed_word()?;
@@ -59,9 +61,8 @@ fn read_node(words: &mut Words) -> Result<Node, Wrong>
 fn node_by(kind: &[u8], size: &[u8], word: &[u8]) -> Result<Node, Wrong>
     ensures { result ≡ node_by kind.now size.now word.now }
 {
-    Ok(Node {
-        kind: decimal(kind, u64::from(u8::MAX))? as u8,
-        size: decimal(size, u64::from(u16::MAX))? as u16,
-        word: decimal(word, u64::MAX)?,
-    })
+    let kind = decimal(kind)?;
+    let size = decimal(size)?;
+    let word = decimal(word)?;
+    Ok(Node { kind, size, word })
 }

@@ -2,10 +2,11 @@
 #![tactic(auto)]
 
 pub mod answer;
-mod batch;
 mod command;
-mod line;
 mod number;
+mod reserved;
 pub mod session;
+#[cfg(test)]
+mod tests;
 mod words;
 pub mod wrong;

@@ -1,36 +1,26 @@
 // Numbers as a job writes them: decimal digits and nothing else.
-ghost use Rattle.std.specs.Prelude.{◌≡◌, ◌≤◌, IfOk};
-ghost use Rattle.job.specs.Numbers.{plain, decimal_of};
+ghost use Rattle.std.specs.Prelude.{◌≡◌, true, false, MatchOption};
+ghost use Rattle.job.specs.Numbers.{plain, Reads};
 
 use super::wrong::Wrong;
+use std::str::{FromStr, from_utf8};
 
-// The number that a word writes, if it is at most `most`. Zeros in front change nothing.
-pub fn decimal(word: &[u8], most: u64) -> Result<u64, Wrong>
-    ensures value { result ≡ decimal_of word.now most }
-    ensures bound { IfOk result (λ n. n ≤ most) }
+// The number that a word writes, if it fits its type. Zeros in front change nothing.
+pub fn decimal<T: FromStr>(word: &[u8]) -> Result<T, Wrong>
+where
+    T::Err: Drop,
+    ensures { Reads T.from_str_gives word.now result }
 {
-    if !is_plain(word) {
-        return Err(Wrong::NotANumber);
-    }
-    let mut number = 0;
-    for b in word {
-        let longer = u128::from(number) * 10 + u128::from(*b - b'0');
-        if longer > u128::from(most) {
-            return Err(Wrong::NumberTooLarge);
-        }
-        number = longer as u64;
-    }
-    Ok(number)
+    let text = plain_text(word).ok_or(Wrong::NotANumber)?;
+    text.parse().map_err(|_| Wrong::NumberTooLarge)
 }
 
-// Whether a word is made of digits, and of at least one.
-fn is_plain(word: &[u8]) -> bool
-    ensures { result ≡ plain word.now }
+// A word that is made of digits, and of at least one.
+fn plain_text(word: &[u8]) -> Option<&str>
+    ensures { MatchOption result (plain word.now ≡ false) (λ text. (plain word.now ≡ true) × (text.now ≡ word.now)) }
 {
-    for b in word {
-        if !b.is_ascii_digit() {
-            return false;
-        }
+    if word.is_empty() || !word.iter().all(u8::is_ascii_digit) {
+        return None;
     }
-    !word.is_empty()
+    from_utf8(word).ok()
 }

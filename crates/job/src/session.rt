@@ -2,18 +2,25 @@
 ghost use Rattle.std.specs.Prelude.{◌≡◌, List, [], length, IfOk, None, MatchBool, ◌==◌, nat_lt};
 ghost use Rattle.job.specs.Play.{Holds, Replies, after};
 ghost use Rattle.table.specs.declared.kinds.Node.{Node};
-ghost use Rattle.job.specs.Sessions.{front_of, nodes_of, Stands, Longer, Ended};
+ghost use Rattle.job.specs.Sessions.{Stands, Longer, Ended};
 
 use super::answer::Answer;
-use super::batch::Batch;
-use super::command::Command;
-use super::line::Line;
+use super::command::{Command, LONGEST_LINE, read_line};
+use super::reserved::Reserved;
 use std::alloc::{AllocError, Global};
+use table::kinds::Node;
+use table::shape::{MOST_NODES, check_shape};
+
+// With one byte more than it may have, a line is too long whatever follows.
+const LINE_ROOM: usize = LONGEST_LINE + 1;
+
+// With one node more than it may have, a batch is refused for its length whatever follows.
+const BATCH_ROOM: usize = MOST_NODES + 1;
 
 #[derive(Drop)]
 pub struct Session {
-    line: Line,
-    batch: Batch,
+    line: Reserved<u8, LINE_ROOM>,
+    batch: Reserved<Node, BATCH_ROOM>,
     // how many lines have ended
     ended: u64,
 }
@@ -22,8 +29,8 @@ impl Session {
     pub fn new(heap: Global) -> Result<Session, AllocError>
         ensures { IfOk result (λ s. (s.ended ≡ 0) × Stands s [] []) }
     {
-        let line = Line::new(heap)?;
-        let batch = Batch::new(heap)?;
+        let line = Reserved::new(heap)?;
+        let batch = Reserved::new(heap)?;
         Ok(Session {
             line,
             batch,
@@ -44,13 +51,12 @@ impl Session {
 
     // Ends the job. Its last line needs no newline.
     pub fn finish(&mut self) -> Option<Answer>
-        ensures { MatchBool (nat_lt 0 (length (front_of self.old))) (Ended self.old result self.new) ((result ≡ None) × (self.new ≡ self.old)) }
+        ensures { MatchBool (nat_lt 0 (length self.old.line)) (Ended self.old result self.new) ((result ≡ None) × (self.new ≡ self.old)) }
     {
-        if self.line.has_begun() {
-            self.end_line()
-        } else {
-            None
+        if self.line.as_slice().is_empty() {
+            return None;
         }
+        self.end_line()
     }
 
     // Plays the line, and goes on to the next.
@@ -58,8 +64,10 @@ impl Session {
         ensures { Ended self.old result self.new }
     {
         self.ended = self.ended.saturating_add(1);
-        match self.line.take_command() {
-            Ok(command) => self.obey(command),
+        let command = read_line(self.line.as_slice());
+        self.line.clear();
+        match command {
+            Ok(command) => self.obey(command?),
             Err(wrong) => Some(Answer::Line {
                 number: self.ended,
                 wrong,
@@ -69,18 +77,21 @@ impl Session {
 
     // Does what a command says.
     fn obey(&mut self, command: Command) -> Option<Answer>
-        ensures replies { (written : List Node) → Holds (nodes_of self.old) written → Replies command written result }
-        ensures holds { (written : List Node) → Holds (nodes_of self.old) written → Holds (nodes_of self.new) (after command written) }
+        ensures replies { (written : List Node) → Holds self.old.batch written → Replies command written result }
+        ensures holds { (written : List Node) → Holds self.old.batch written → Holds self.new.batch (after command written) }
         ensures same_line { self.new.line ≡ self.old.line }
         ensures same_count { self.new.ended ≡ self.old.ended }
     {
         match command {
-            Command::Nothing => None,
             Command::Node(node) => {
-                self.batch.add(node);
+                self.batch.push(node);
                 None
             }
-            Command::Shape => Some(Answer::Shape(self.batch.take_shape())),
+            Command::Shape => {
+                let shape = check_shape(self.batch.as_slice());
+                self.batch.clear();
+                Some(Answer::Shape(shape))
+            }
         }
     }
 }

@@ -1,86 +1,66 @@
 // The words of a line, taken one by one.
-ghost use Rattle.std.specs.Prelude.{◌≡◌, ◌≤◌, not, [], ◌∷◌, length, MatchOption, MatchResult, ◌==◌, nat_eq};
-ghost use Rattle.std.specs.List.{prefix_len};
+ghost use Rattle.std.specs.Prelude.{◌≡◌, ℕ, List, [], ◌∷◌, MatchOption, MatchResult};
 ghost use Rattle.job.specs.Words.{before_comment, words_of, Cut};
 ghost use Rattle.job.specs.Commands.{end_of};
 ghost use Rattle.job.specs.declared.wrong.Wrong.TheVariants.{MissingWord};
 
 use super::wrong::Wrong;
+use std::marker::Model;
 
 // The part of a line that is still to be read.
-#[derive(Clone, Copy)]
+#[derive(Drop)]
 pub struct Words<'a> {
     rest: &'a [u8],
+}
+
+// Clauses see the words.
+impl<'a> Model for Words<'a> {
+    ghost Value = { List (List ℕ) };
+
+    ghost view = { λ s. words_of s.rest.now };
 }
 
 impl<'a> Words<'a> {
     // The words that stand before the comment.
     pub fn new(line: &'a [u8]) -> Words<'a>
-        ensures rest { result.rest.now ≡ before_comment line.now }
+        ensures words { result ≡ words_of (before_comment line.now) }
         ensures cut { Cut (before_comment line.now) (words_of (before_comment line.now)) }
     {
+        let comment = line.iter().position(|b| *b == b'#').unwrap_or(line.len());
         Words {
-            rest: &line[0..run_without(line, b'#')],
+            rest: &line[..comment],
         }
-    }
-
-    // Takes the next word.
-    pub fn next_word(&mut self) -> Option<&'a [u8]>
-        ensures { MatchOption result ((words_of self.old.rest.now ≡ []) × (words_of self.new.rest.now ≡ [])) (λ w. words_of self.old.rest.now ≡ w.now ∷ words_of self.new.rest.now) }
-    {
-        let start = run_of_spaces(self.rest);
-        let (_, text) = self.rest.split_at(start);
-        if text.is_empty() {
-            return None;
-        }
-        let (word, rest) = text.split_at(run_without(text, b' '));
-        self.rest = rest;
-        Some(word)
     }
 
     // Takes the next word of a command that is not complete without it.
     pub fn needed_word(&mut self) -> Result<&'a [u8], Wrong>
-        ensures { MatchResult result (λ w. words_of self.old.rest.now ≡ w.now ∷ words_of self.new.rest.now) (λ e. (e ≡ MissingWord) × (words_of self.old.rest.now ≡ [])) }
+        ensures { MatchResult result (λ w. self.old ≡ w.now ∷ self.new) (λ e. (e ≡ MissingWord) × (self.old ≡ [])) }
     {
-        match self.next_word() {
-            Some(word) => Ok(word),
-            None => Err(Wrong::MissingWord),
-        }
+        self.next().ok_or(Wrong::MissingWord)
     }
 
     // Ends a command that takes no further word.
     pub fn end(&mut self) -> Result<(), Wrong>
-        ensures { result ≡ end_of (words_of self.old.rest.now) }
+        ensures { result ≡ end_of self.old }
     {
-        match self.next_word() {
+        match self.next() {
             Some(_) => Err(Wrong::WordTooMany),
             None => Ok(()),
         }
     }
 }
 
-// How many bytes stand before the first `stop`.
-fn run_without(bytes: &[u8], stop: u8) -> usize
-    ensures value { result ≡ prefix_len (λ b. not (b == stop)) bytes.now }
-    ensures within { result ≤ length bytes.now }
-{
-    for (i, b) in bytes.iter().enumerate() {
-        if *b == stop {
-            return i;
-        }
-    }
-    bytes.len()
-}
+impl<'a> Iterator for Words<'a> {
+    type Item = &'a [u8];
 
-// How many spaces stand in front.
-fn run_of_spaces(bytes: &[u8]) -> usize
-    ensures value { result ≡ prefix_len (λ b. nat_eq b 32) bytes.now }
-    ensures within { result ≤ length bytes.now }
-{
-    for (i, b) in bytes.iter().enumerate() {
-        if *b != b' ' {
-            return i;
-        }
+    ghost next_gives = { λ s word t. MatchOption word ((s ≡ []) × (t ≡ [])) (λ w. s ≡ w.now ∷ t) };
+
+    fn next(&mut self) -> Option<&'a [u8]> {
+        let start = self.rest.iter().position(|b| *b != b' ')?;
+        let text = &self.rest[start..];
+        let end = text.iter().position(|b| *b == b' ').unwrap_or(text.len());
+        let (word, rest) = text.split_at(end);
+        self.rest = rest;
+        Some(word)
     }
-    bytes.len()
 }

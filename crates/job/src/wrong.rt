@@ -1,6 +1,8 @@
 // What is wrong with a line that says no command.
-ghost use Rattle.std.specs.Prelude.{◌≡◌};
+ghost use Rattle.std.specs.Prelude.{◌≡◌, Some};
 ghost use Rattle.job.specs.Faults.{text_of};
+
+use std::fmt;
 
 #[derive(Clone, Copy)]
 pub enum Wrong {
@@ -13,7 +15,6 @@ pub enum Wrong {
 }
 
 impl Wrong {
-    // What the program prints of it.
     pub fn text(self) -> &'static str
         ensures { result.now ≡ text_of self }
     {
@@ -25,5 +26,13 @@ impl Wrong {
             Wrong::NumberTooLarge => "number too large",
             Wrong::LineTooLong => "line too long",
         }
+    }
+}
+
+impl fmt::Display for Wrong {
+    ghost output = { λ w. Some (text_of w) };
+
+    fn fmt<W: fmt::Write>(&self, f: &mut fmt::Formatter<W>) -> fmt::Result {
+        f.write_str(self.text())
     }
 }

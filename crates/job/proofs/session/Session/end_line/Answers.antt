@@ -1,15 +1,19 @@
-use Rattle.std.proofs.Common.{Some, vec_items, refl, subst}
-use Rattle.job.specs.Play.{Holds, LineReplies, line_after}
-use Rattle.job.specs.declared.answer.Answer.TheVariants.{Line}
+use Rattle.std.proofs.Common.{Ok, Err, Some, None, sym, ap, ◌∙◌, refl}
+use Rattle.job.specs.Commands.{line_of}
+use Rattle.job.proofs.Bounds.{ended}
 use Rattle.job.proofs.session.Session.end_line.Goals as goal
+
+pub returns-in_err-command-in-Ok : goal.returns-in_err-command-in-Ok
+returns-in_err-command-in-Ok c =
+    ended _ _ _ (Ok None) c.saturating_add-self.ensures c.clear.ensures (sym (c.in-Ok.is ∙ ap Ok c.in_err-command-in-Ok.was) ∙ c.read_line-command.ensures ∙ ap line_of c.as_slice.ensures)
+    (λ written h. (c.from_residual.ensures, h))
+
+pub returns-in_ok-command-in-Ok : goal.returns-in_ok-command-in-Ok
+returns-in_ok-command-in-Ok c =
+    ended _ _ _ (Ok (Some c.in_ok-command-in-Ok.field-0)) (c.obey.ensures.same_count ∙ c.saturating_add-self.ensures) (c.obey.ensures.same_line ∙ c.clear.ensures) (sym (c.in-Ok.is ∙ ap Ok c.in_ok-command-in-Ok.was) ∙ c.read_line-command.ensures ∙ ap line_of c.as_slice.ensures)
+    (λ written h. (c.obey.ensures.replies written h, c.obey.ensures.holds written h))
 
 pub returns-in-Err : goal.returns-in-Err
 returns-in-Err c =
-    record {
-      counted = c.saturating_add-self.ensures;
-      replies = λ text written h. subst (λ says. LineReplies says c.saturating_add-self.result written (Some (Line c.saturating_add-self.result c.in-Err.wrong))) (c.in-Err.ensures.whole text h.carries) refl;
-      stands = λ text written h. record {
-        carries = record { kept_front = c.take_command.ensures.after; more = c.take_command.ensures.flag };
-        holds = subst (λ says. Holds (vec_items c.args.self.now.batch.nodes) (line_after says written)) (c.in-Err.ensures.whole text h.carries) h.holds;
-      };
-    }
+    ended _ _ _ (Err c.in-Err.wrong) c.saturating_add-self.ensures c.clear.ensures (sym c.in-Err.is ∙ c.read_line-command.ensures ∙ ap line_of c.as_slice.ensures)
+    (λ written h. (refl, h))
