@@ -5,7 +5,8 @@ ghost use Rattle.job.specs.Kept.{kept, Keeps};
 use std::alloc::{AllocError, Global};
 use std::marker::Model;
 
-// All memory is reserved when the list is made, so that to add an item cannot fail. What has no room is dropped.
+// All memory is reserved when the list is made, so that to add an item cannot fail. What has no room is dropped; the vectors of
+// a library or a store never meet that, so they are none of these. A line is too long for an array on the stack.
 #[derive(Drop)]
 pub struct Reserved<T, const ROOM: usize> {
     items: Vec<T>,

@@ -14,7 +14,7 @@ use types::hierarchy::Hierarchy;
 use types::subtypes::parent_of;
 use values::types::Type;
 
-// The name of a type that is no class.
+// The name of a type that is no class. One generic entry for this and for what is in view would name the value of neither.
 #[derive(Clone, Copy)]
 pub struct TypeName {
     pub name: u16,

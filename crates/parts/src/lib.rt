@@ -24,7 +24,7 @@ pub struct Shaped<'a> {
     pub ghost formed: { Formed nodes.now } by { Formed-prop nodes.now },
 }
 
-// Where the elements of a list begin, and where the last ends.
+// Where the elements of a list begin, and where the last ends. It is copied, as a Range of std cannot be.
 #[derive(Clone, Copy)]
 pub struct Span {
     pub first: usize,

@@ -6,6 +6,7 @@ ghost use Rattle.store.specs.Model.{cleared};
 use super::traits::Store;
 use values::value::Value;
 
+// A change is data and no closure, since the theorem is about lists of changes.
 #[derive(Clone, Copy)]
 pub enum Change {
     Create {

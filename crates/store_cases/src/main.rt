@@ -108,7 +108,7 @@ impl Dice {
     }
 }
 
-// Makes one operation on a store.
+// Makes one operation on a store. Operations are data, since both stores get the same.
 fn play<S: Store>(store: &mut S, operation: Operation) -> Option<Answer> {
     match operation {
         Operation::Clear => {

@@ -86,7 +86,8 @@ impl<'a> Front<'a> {
             .is_some_and(|q| q == self.end)
     }
 
-    // Whether at most `most` children of one class follow one another from `first` on, and the last ends at the end.
+    // Whether at most `most` children of one class follow one another from `first` on, and the last ends at the end. A loop, since it
+    // may end before the last turn with either answer.
     fn elements(self, element: Class, most: usize, first: usize) -> bool
         ensures { Decides result (Elements self.entry.nodes.now self.entry.end element most first) }
     {

@@ -100,7 +100,8 @@ struct Places {
     end: usize,
 }
 
-// The view of a node with that kind and word, and with its children at those places.
+// The view of a node with that kind and word, and with its children at those places: an arm for each kind, as the definition has an
+// entry for each.
 #[rattlefmt::skip]
 fn head(kind: Kind, word: u64, at: Places) -> View
     requires { fits (row_of (number_of kind)).word word ≡ true }
