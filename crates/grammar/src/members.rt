@@ -59,6 +59,8 @@ pub trait MemberKind {
         ensures { MatchResult result (λ m. is site.entry.batch.nodes.now (scope_at (contents library.now) site.entry) before p m) (λ f. breaks site.entry.batch.nodes.now (scope_at (contents library.now) site.entry) p f) };
 }
 
+// That a library is ready for a site stays a clause here and no type: what is declared lends the library to be read, what is added lends
+// it to be written, and a struct of both would hold it for one call.
 // Declares the member at `p`, with its Identifier at `place`, unless one from `first` on has its name already.
 fn declare_member<K: MemberKind>(
     site: Site<'_>,

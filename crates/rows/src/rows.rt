@@ -38,6 +38,7 @@ impl<const RECORDS: usize, const CELLS: usize> Rows<RECORDS, CELLS> {
     }
 }
 
+// What the two stores share stands in crate `store`; what is left alike here and in `slips` are the trait's own signatures.
 impl<const RECORDS: usize, const CELLS: usize> Store for Rows<RECORDS, CELLS> {
     const R: usize = RECORDS;
 
