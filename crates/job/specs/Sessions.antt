@@ -6,9 +6,13 @@ use Rattle.job.specs.Play.{Holds, LineReplies, line_after}
 use Rattle.job.specs.declared.answer.Answer.{Answer}
 use Rattle.job.specs.declared.session.Session.{Session}
 
+-- what is kept of the line that s reads
+abbrev pub front_of : Session → List ℕ
+front_of s = s.line
+
 -- s has read `text` of its line, and the nodes of its batch are `written`
 pub record Stands (s : Session) (text : List ℕ) (written : List Node) : Type 0 where
-  pub carries : Carries s.line text
+  pub carries : Carries (front_of s) text
   pub holds : Holds s.batch written
 
 -- t is s with a byte more in its line

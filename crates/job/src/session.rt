@@ -2,7 +2,7 @@
 ghost use Rattle.std.specs.Prelude.{◌≡◌, List, [], length, IfOk, None, MatchBool, ◌==◌, nat_lt};
 ghost use Rattle.job.specs.Play.{Holds, Replies, after};
 ghost use Rattle.table.specs.declared.kinds.Node.{Node};
-ghost use Rattle.job.specs.Sessions.{Stands, Longer, Ended};
+ghost use Rattle.job.specs.Sessions.{front_of, Stands, Longer, Ended};
 
 use super::answer::Answer;
 use super::command::{Command, LONGEST_LINE, read_line};
@@ -51,7 +51,7 @@ impl Session {
 
     // Ends the job. Its last line needs no newline.
     pub fn finish(&mut self) -> Option<Answer>
-        ensures { MatchBool (nat_lt 0 (length self.old.line)) (Ended self.old result self.new) ((result ≡ None) × (self.new ≡ self.old)) }
+        ensures { MatchBool (nat_lt 0 (length (front_of self.old))) (Ended self.old result self.new) ((result ≡ None) × (self.new ≡ self.old)) }
     {
         if self.line.as_slice().is_empty() {
             return None;
