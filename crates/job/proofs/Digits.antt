@@ -1,59 +1,102 @@
--- Words of digits, as std's `parse` reads them.
-use Rattle.std.proofs.Common.{nat_lt, ◌≡◌, ℕ, ◌^◌, ◌<◌, suc, true, false, ◌&&◌, leb, List, [], ◌∷◌, length, Ok, Err, Result, MatchResult, inl, inr, refl, ap, rules, arith}
+-- The number that digits write, digit by digit, and as a number of so many bits.
+use Rattle.std.proofs.Common.{nat_lt, ◌≡◌, ℕ, ◌+◌, ◌-◌, ◌*◌, ◌^◌, ◌<◌, ◌≤◌, suc, true, false, ◌&&◌, leb, ltb, List, [], ◌∷◌, length, Option, Some, None, MatchOption, Ok, Err, Result, MatchResult, inl, inr, refl, sym, ◌∙◌, subst, ap, rules, arith}
+use denote.Param.Members.{Mut, Called}
+use denote.Ref.{Bor}
+use borrow.Author.Tests.{clash}
 use Rattle.std.specs.Char.{is_ascii_digit}
-use Rattle.std.specs.List.{list_all}
-use Rattle.std.specs.Str.{all_ascii_digits, IsUtf8}
-use Rattle.std.specs.Str.Parse.{ParsesUnsigned, ExplainsUnsignedError, HasUnsignedDigitsIfOk}
-use Rattle.std.specs.declared.num.ParseIntError.{ParseIntError}
-use Rattle.std.proofs.lemmas.Str.Parse.{IsNumeralModel, numerals_by_fold, parse_digits}
-use Rattle.std.proofs.lemmas.Str.{IsUtf8-from_ascii}
-use Rattle.std.proofs.lemmas.Bool.{and_parts, MatchBool-at_true, MatchBool-at_false, cases_Bool, false_from_ne_true, ltb-true, leb-true, le-leb}
-use Rattle.std.proofs.lemmas.Fmt.{IsAscii-from_digits}
+use Rattle.std.specs.ControlFlow.{continue_value}
+use Rattle.std.specs.declared.ops.ControlFlow.{ControlFlow}
+use Rattle.std.specs.Iterator.{Yields, TryFoldTurn, TryFoldsItems}
+use Rattle.std.specs.List.{list_all, FoldsTo}
+use Rattle.std.specs.Slice.Iter.{iter_rest, iter_steps}
+use Rattle.std.specs.declared.slice.Iter.{Iter}
+use Rattle.std.specs.Result.{OkIff}
+use Rattle.std.specs.Str.{all_ascii_digits}
+use Rattle.std.specs.declared.num.TryFromIntError.{TryFromIntError}
+use Rattle.std.proofs.lemmas.Bool.{MatchBool-at_true, MatchBool-at_false, cases_Bool, false_from_ne_true, ltb-true, lt-ltb, leb-true, le-leb}
 use Rattle.job.specs.Numbers.{plain, number_after, decimal_of, Reads}
 use Rattle.job.specs.declared.wrong.Wrong.{Wrong}
 use Rattle.job.specs.declared.wrong.Wrong.TheVariants.{NumberTooLarge, NotANumber}
-
-own : IsNumeralModel (λ ds. all_ascii_digits ds ≡ true) (number_after 0)
-own = numerals_by_fold _ (search rules) number_after (search rules)
 
 pub digits_all : (w : List ℕ) → list_all is_ascii_digit w ≡ all_ascii_digits w
 digits_all [] = refl
 digits_all (b ∷ w) = ap (λ t. is_ascii_digit b && t) (digits_all w)
 
-pub plain_utf8 : (w : List ℕ) → plain w ≡ true → IsUtf8 w
-plain_utf8 w h = IsUtf8-from_ascii w (IsAscii-from_digits w (own.to w (and_parts (nat_lt 0 (length w)) (all_ascii_digits w) h).1))
+-- digits behind a number never make it smaller
+grows : (n : ℕ) (w : List ℕ) → n ≤ number_after n w
+grows n [] = omega arith
+grows n (b ∷ w) = omega (arith, grows (10 * n + (b - 48)) w)
 
--- what std says of `parse` at the unsigned type of k bits
-abbrev pub Parses : ℕ → List ℕ → Result ℕ ParseIntError → Type 0
-Parses k bs p = ParsesUnsigned k 10 bs p × ExplainsUnsignedError 10 bs p × HasUnsignedDigitsIfOk bs p
+-- a step of f puts a digit behind a number, if the new number has 64 bits
+abbrev pub PutsDigit : {F : Type 0} → Mut F (ℕ × (Bor ℕ × Unit {0})) (Option ℕ) → F → Type 0
+PutsDigit {F} g f = (n : ℕ) (x : Bor ℕ) (v : Option ℕ) (f' : F) → Called g f (n, (x, tt)) v f' →
+    (f' ≡ f) × MatchOption v (18446744073709551616 ≤ 10 * n + (x.now - 48)) (λ m. m ≡ 10 * n + (x.now - 48))
 
-module _ (k most : ℕ) (fits : 2 ^ k ≡ suc most) (w : List ℕ) (r : Result ℕ Wrong) where
-  read_as : (p : Result ℕ ParseIntError) → plain w ≡ true → ParsesUnsigned k 10 w p → MatchResult p (λ n. r ≡ Ok n) (λ e. r ≡ Err NumberTooLarge) → r ≡ decimal_of w most
-  read_as (Ok n) h parsed e =
-      let digits : all_ascii_digits w ≡ true = (and_parts (nat_lt 0 (length w)) (all_ascii_digits w) h).1 in
-      let is : ((0 < length w) × (number_after 0 w < 2 ^ k)) × (n ≡ number_after 0 w) = parse_digits own {E = ParseIntError} k w (Ok n) parsed digits in
-      let small : leb (number_after 0 w) most ≡ true = le-leb _ _ (omega (arith, is.0.1)) in
-      let same = is.1 in
+-- no digits leave a number as it is
+ended : (n : ℕ) (w : List ℕ) → length w ≡ 0 → number_after n w ≡ n
+ended n [] h = refl
+ended n (b ∷ w) h = absurd (omega arith)
+
+module _ {F : Type 0} (E : Type 0) (g : Mut F (ℕ × (Bor ℕ × Unit {0})) (Option ℕ)) (f : F) where
+  abbrev goes : Option ℕ → ControlFlow E ℕ → Type 0
+  goes v r = v ≡ continue_value r
+
+  went : PutsDigit g f → (xs : List (Bor ℕ)) (s t : Iter ℕ) (n a : ℕ) (f' : F) → Yields iter_steps s xs t → FoldsTo {P = F × ℕ} (TryFoldTurn g goes) (f, n) xs (f', a) →
+      (f' ≡ f) × (number_after n (iter_rest s) ≡ number_after a (iter_rest t))
+  went h [] s t n a f' y z =
+      let i = ap (λ (p : F × ℕ). p.0) z in
+      let j = ap (λ (p : F × ℕ). p.1) z in
+      (sym i, subst (λ s. number_after n (iter_rest s) ≡ number_after a (iter_rest t)) (sym y) (ap (λ k. number_after k (iter_rest t)) j))
+  went h (x ∷ xs) s t n a f' (j, y, ys) (p, (v, c, b), z) =
+      let k = h n x v p.0 c in
+      let m = subst (λ v. MatchOption v (18446744073709551616 ≤ 10 * n + (x.now - 48)) (λ m. m ≡ 10 * n + (x.now - 48))) b k.1 in
+      let r = went h xs j t p.1 a f' ys (subst (λ f. FoldsTo {P = F × ℕ} (TryFoldTurn g goes) (f, p.1) xs (f', a)) k.0 z) in
+      (r.0, subst (λ ds. number_after n ds ≡ number_after a (iter_rest t)) (sym y) (subst (λ k. number_after k (iter_rest j) ≡ number_after a (iter_rest t)) m r.1))
+
+  pub folded : (s u : Iter ℕ) (r : Option ℕ) → PutsDigit g f → TryFoldsItems iter_steps g goes (λ _ r. r ≡ None) s f 0 r u →
+      MatchOption r (18446744073709551616 ≤ number_after 0 (iter_rest s)) (λ n. n ≡ number_after 0 (iter_rest s))
+  folded s u r h (xs, None, f', a, (t, y, l), z, i) =
+      let w = went h xs s t 0 a f' y z in
+      let last : number_after a (iter_rest t) ≡ a = ended a (iter_rest t) l.0 in
+      rw i (omega (arith, w.1, last))
+  folded s u r h (xs, Some x, f', a, (t, y, l), z, (v, j, d, c, i, n)) =
+      let w = went h xs s t 0 a f' y z in
+      let p = h a x v j (subst (λ f. Called g f (a, (x, tt)) v j) w.0 c) in
+      let big : 18446744073709551616 ≤ 10 * a + (x.now - 48) = subst (λ v. MatchOption v (18446744073709551616 ≤ 10 * a + (x.now - 48)) (λ m. m ≡ 10 * a + (x.now - 48))) i p.1 in
+      let more : number_after a (iter_rest t) ≡ number_after a (x.now ∷ iter_rest u) = ap (number_after a) l in
+      rw n (omega (arith, w.1, more, big, grows (10 * a + (x.now - 48)) (iter_rest u)))
+
+-- what std says of a number's conversion to the unsigned type of k bits
+abbrev pub Converts : ℕ → ℕ → Result ℕ TryFromIntError → Type 0
+Converts k n r = OkIff r (n < 2 ^ k) n
+
+module _ (k most : ℕ) (fits : 2 ^ k ≡ suc most) (small : most < 18446744073709551616) (w : List ℕ) (r : Result ℕ Wrong) where
+  fitted_as : (f : Result ℕ TryFromIntError) → plain w ≡ true → Converts k (number_after 0 w) f → MatchResult f (λ n. r ≡ Ok n) (λ e. r ≡ Err NumberTooLarge) → r ≡ decimal_of w most
+  fitted_as (Ok n) p c e =
+      let within : leb (number_after 0 w) most ≡ true = le-leb _ _ (omega (arith, c.0)) in
+      let same = c.1 in
       cc
-  read_as (Err x) h parsed e =
-      let digits : all_ascii_digits w ≡ true = (and_parts (nat_lt 0 (length w)) (all_ascii_digits w) h).1 in
-      let is : ((0 < length w) × (number_after 0 w < 2 ^ k)) → ⊥ = parse_digits own {E = ParseIntError} k w (Err x) parsed digits in
-      let long : 0 < length w = ltb-true 0 (length w) (and_parts (nat_lt 0 (length w)) (all_ascii_digits w) h).0 in
-      let large : leb (number_after 0 w) most ≡ false = false_from_ne_true _ (λ f. is (long, omega (arith, leb-true _ _ f))) in
-      cc
+  fitted_as (Err x) p c e = let large : leb (number_after 0 w) most ≡ false = false_from_ne_true _ (λ f. c (omega (arith, leb-true _ _ f))) in cc
 
-  as_decimal : Reads (Parses k) w r → r ≡ decimal_of w most
+  as_decimal : Reads (Converts k) w r → r ≡ decimal_of w most
   as_decimal h =
       elim (cases_Bool (plain w)) [
-        | inl plainly ↦ let at = MatchBool-at_true _ _ plainly h in read_as at.0 plainly at.1.0 at.2
-        | inr else ↦ let e : r ≡ Err NotANumber = MatchBool-at_false _ _ else h in cc
+        | inl p ↦
+            elim (cases_Bool (nat_lt (number_after 0 w) 18446744073709551616)) [
+              | inl s ↦ let at = MatchBool-at_true _ _ s (MatchBool-at_true _ _ p h) in fitted_as at.0 p at.1 at.2
+              | inr l ↦
+                  let e : r ≡ Err NumberTooLarge = MatchBool-at_false _ _ l (MatchBool-at_true _ _ p h) in
+                  let large : leb (number_after 0 w) most ≡ false = false_from_ne_true _ (λ f. clash (sym l ∙ lt-ltb _ _ (omega (arith, leb-true _ _ f)))) in
+                  cc
+            ]
+        | inr n ↦ let e : r ≡ Err NotANumber = MatchBool-at_false _ _ n h in cc
       ]
 
-pub as_u8 : (w : List ℕ) (r : Result ℕ Wrong) → Reads (Parses 8) w r → r ≡ decimal_of w 255
-as_u8 w r h = as_decimal 8 255 refl w r h
+pub as_u8 : (w : List ℕ) (r : Result ℕ Wrong) → Reads (Converts 8) w r → r ≡ decimal_of w 255
+as_u8 w r h = as_decimal 8 255 refl (omega arith) w r h
 
-pub as_u16 : (w : List ℕ) (r : Result ℕ Wrong) → Reads (Parses 16) w r → r ≡ decimal_of w 65535
-as_u16 w r h = as_decimal 16 65535 refl w r h
+pub as_u16 : (w : List ℕ) (r : Result ℕ Wrong) → Reads (Converts 16) w r → r ≡ decimal_of w 65535
+as_u16 w r h = as_decimal 16 65535 refl (omega arith) w r h
 
-pub as_u64 : (w : List ℕ) (r : Result ℕ Wrong) → Reads (Parses 64) w r → r ≡ decimal_of w 18446744073709551615
-as_u64 w r h = as_decimal 64 18446744073709551615 refl w r h
+pub as_u64 : (w : List ℕ) (r : Result ℕ Wrong) → Reads (Converts 64) w r → r ≡ decimal_of w 18446744073709551615
+as_u64 w r h = as_decimal 64 18446744073709551615 refl (omega arith) w r h

@@ -1,26 +1,37 @@
 // Numbers as a job writes them: decimal digits and nothing else.
-ghost use Rattle.std.specs.Prelude.{◌≡◌, true, false, MatchOption};
-ghost use Rattle.job.specs.Numbers.{plain, Reads};
+ghost use Rattle.std.specs.Prelude.{◌≡◌, ◌≤◌, ◌^◌, MatchOption};
+ghost use Rattle.job.specs.Numbers.{plain, number_after, Reads};
 
 use super::wrong::Wrong;
-use std::str::{FromStr, from_utf8};
 
 // The number that a word writes, if it fits its type. Zeros in front change nothing.
-pub fn decimal<T: FromStr>(word: &[u8]) -> Result<T, Wrong>
+pub fn decimal<T: TryFrom<u128>>(word: &[u8]) -> Result<T, Wrong>
 where
-    T::Err: Drop,
-    ensures { Reads T.from_str_gives word.now result }
+    T::Error: Drop,
+    ensures { Reads T.try_from_gives word.now result }
 {
-    let text = plain_text(word).ok_or(Wrong::NotANumber)?;
-    text.parse().map_err(|_| Wrong::NumberTooLarge)
+    if !is_plain(word) {
+        return Err(Wrong::NotANumber);
+    }
+    let number = number_of(word).ok_or(Wrong::NumberTooLarge)?;
+    T::try_from(u128::from(number)).map_err(|_| Wrong::NumberTooLarge)
 }
 
-// A word that is made of digits, and of at least one.
-fn plain_text(word: &[u8]) -> Option<&str>
-    ensures { MatchOption result (plain word.now ≡ false) (λ text. (plain word.now ≡ true) × (text.now ≡ word.now)) }
+// Whether a word is made of digits, and of at least one.
+fn is_plain(word: &[u8]) -> bool
+    ensures { result ≡ plain word.now }
 {
-    if word.is_empty() || !word.iter().all(u8::is_ascii_digit) {
-        return None;
-    }
-    from_utf8(word).ok()
+    !word.is_empty() && word.iter().all(u8::is_ascii_digit)
+}
+
+// The number that digits write, if it has 64 bits. Digit by digit, since with std's `parse`, which reads a `str`, a job of
+// nodes takes a fifth longer (docs/DESIGN-PASS.md).
+fn number_of(digits: &[u8]) -> Option<u64>
+    ensures { MatchOption result (2 ^ 64 ≤ number_after 0 digits.now) (λ n. n ≡ number_after 0 digits.now) }
+{
+    digits.iter().try_fold(0, |number: u64, digit| {
+        number
+            .checked_mul(10)?
+            .checked_add(u64::from(digit.saturating_sub(b'0')))
+    })
 }
