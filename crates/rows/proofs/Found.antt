@@ -1,8 +1,8 @@
 -- What a store of rows answers at a record's number, and what a write leaves.
-use Rattle.std.specs.Prelude.{◌≡◌, ℕ, zero, suc, refl, ◌+◌, ◌-◌, ◌<◌, ◌≤◌, ◌⊎◌, List, [], ◌∷◌, ◌++◌, length, take, drop, replicate, Some, None, Option, MatchOption, ltb, vec_items, vec_len, slice_index_or, slice_set}
+use Rattle.std.specs.Prelude.{◌≡◌, ℕ, zero, suc, refl, ◌+◌, ◌-◌, ◌<◌, ◌≤◌, ◌⊎◌, List, [], ◌∷◌, ◌++◌, length, take, drop, replicate, Some, None, Option, MatchOption, vec_items, vec_len, slice_index_or, slice_set}
 use Rattle.std.proofs.Common.{sym, ap, ◌∙◌, ⊎_elim, arith}
-use Rattle.std.specs.Option.{IsSomeAnd, IfSome, is_some}
-use Rattle.std.proofs.lemmas.Bool.{ltb-true, ltb-false, cases_lt}
+use Rattle.std.specs.Option.{IsSomeAnd}
+use Rattle.std.proofs.lemmas.Bool.{cases_lt}
 use Rattle.std.proofs.Math.Logic.{inl, inr}
 use Rattle.std.proofs.lemmas.List.{length-replicate, length_push}
 use Rattle.std.proofs.lemmas.Option.{none-some, slice_get_within, slice_get-get_or, get_or_from_slice_get}
@@ -109,14 +109,9 @@ pub cell_written : {m n : ℕ} (s : Rows m n) (r j p : ℕ) (v : Value) → Lies
 cell_written s r j p v l =
     ap (λ q. record { records = cut (vec_items s.heads) (slice_set (vec_items s.cells) q v); records_left = s.records_left; cells_left = s.cells_left }) l.isa ∙ value_written s r l.head l.stands j v l.inside
 
--- the same, where a lookup was mapped or tested
+-- the same, where a lookup was mapped
 pub class_mapped : {m n : ℕ} (s : Rows m n) (r : ℕ) (o : Option (Head ℕ)) (a : Option ℕ) (Q : Head ℕ → ℕ → Type 0) (es : List (Head ℕ)) → es ≡ vec_items s.heads → o ≡ by_number es r →
     MatchOption o (a ≡ None) (λ h. IsSomeAnd a (Q h)) → ((h : Head ℕ) (c : ℕ) → Q h c → c ≡ h.class) → a ≡ class_at (meaning s) r
 class_mapped s r None a Q es p m e q = e ∙ sym (class_none s r (absent_by s r es p m))
 class_mapped s r (Some h) None Q es p m e q = absurd e
 class_mapped s r (Some h) (Some c) Q es p m e q = ap Some (q h c e) ∙ sym (class_some s r h (stands_by s r h es p m))
-
-pub place_tested : {m n : ℕ} (s : Rows m n) (r j k : ℕ) (h : Head ℕ) (o : Option ℕ) (Q : ℕ → Type 0) → Stands s r h → k ≡ h.count → is_some o ≡ ltb j k → IfSome o Q → ((p : ℕ) → Q p → p ≡ h.first + j) →
-    MatchOption o (cell_at (meaning s) r j ≡ None) (Lies s r j)
-place_tested s r j k h None Q st e t i q = value_absent s r h st j (let l = ltb-false j k (sym t) in omega arith)
-place_tested s r j k h (Some p) Q st e t i q = record { head = h; stands = st; inside = let l = ltb-true j k (sym t) in omega arith; isa = q p i }

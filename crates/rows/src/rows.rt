@@ -34,7 +34,10 @@ impl<const RECORDS: usize, const CELLS: usize> Rows<RECORDS, CELLS> {
         ensures { MatchOption result (cell_at (meaning self.now) «record» cell ≡ None) (λ p. Lies self.now «record» cell p) }
     {
         let head = entry_of(&self.heads, record)?;
-        (cell < usize::from(head.count)).then(|| usize::from(head.first) + cell)
+        if cell >= usize::from(head.count) {
+            return None;
+        }
+        Some(usize::from(head.first) + cell)
     }
 }
 
