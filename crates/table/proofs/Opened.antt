@@ -103,9 +103,9 @@ module _ (ns : List Node) (p : ℕ) (es : List ℕ) where
 
   -- whether the part of p was opened, by whether there was room for its end, and what is told of it
   pub entered : {A E : Type 0} (r : Result A E) (s : Result A ShapeFault) (xs : List ℕ) (Made : E → ShapeFault → Type 0) → ((e : E) (f : ShapeFault) → Made e f → f ≡ Depth p) →
-      MatchResult r (λ x. s ≡ Ok x) (λ e. IsErrAnd s (Made e)) → IsOk r ↔ (length es < 64) → OnOk r (xs ≡ es ++ end_of ns p ∷ []) →
-      depth ns p ≡ length es + 1 → Opens ns (p + 1) (es ++ end_of ns p ∷ []) →
+      MatchResult r (λ x. s ≡ Ok x) (λ e. IsErrAnd s (Made e)) → IsOk r ↔ (depth ns p ≤ 64) → OnOk r (xs ≡ es ++ end_of ns p ∷ []) →
+      Opens ns (p + 1) (es ++ end_of ns p ∷ []) →
       MatchResult s (λ _. (depth ns p ≤ 64) × Opens ns (p + 1) xs) (λ f. (f ≡ Depth p) × (64 < depth ns p))
-  entered (Ok x) s xs Made m e v k d o = let l = v.0 refl in rw e (omega (arith, l, d), rw k o)
-  entered (Err x) (Ok y) xs Made m e v k d o = absurd e
-  entered (Err x) (Err f) xs Made m e v k d o = (m x f e, said_more (depth ns p) 64 (λ t. absurd (clash t), λ h. v.1 (omega (arith, h, d))))
+  entered (Ok x) s xs Made m e v k o = let l = v.0 refl in rw e (l, rw k o)
+  entered (Err x) (Ok y) xs Made m e v k o = absurd e
+  entered (Err x) (Err f) xs Made m e v k o = (m x f e, said_more (depth ns p) 64 (λ t. absurd (clash t), v.1))
