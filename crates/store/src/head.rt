@@ -14,7 +14,5 @@ pub struct Head<I> {
 pub fn entry_of<H: Copy>(entries: &[H], record: u16) -> Option<H>
     ensures { result ≡ by_number entries.now «record» }
 {
-    entries
-        .get(usize::from(record).wrapping_sub(1))
-        .map(|entry| *entry)
+    entries.get(usize::from(record).wrapping_sub(1)).copied()
 }

@@ -1,4 +1,4 @@
-use Rattle.std.proofs.Common.{◌≡◌, ◌+◌, arith, rules}
+use Rattle.std.proofs.Common.{arith}
 use Rattle.rows.proofs.Found.{absent_by, stands_by, cell_none, value_absent}
 use Rattle.rows.proofs.held.Rows.place_of.Goals as goal
 
