@@ -1,5 +1,5 @@
 -- The number that digits write, digit by digit, and as a number of so many bits.
-use Rattle.std.proofs.Common.{nat_lt, ◌≡◌, ℕ, ◌+◌, ◌-◌, ◌*◌, ◌^◌, ◌<◌, ◌≤◌, suc, true, false, ◌&&◌, leb, ltb, List, [], ◌∷◌, length, Option, Some, None, MatchOption, Ok, Err, Result, MatchResult, inl, inr, refl, sym, ◌∙◌, subst, ap, rules, arith}
+use Rattle.std.proofs.Common.{nat_lt, ◌≡◌, ℕ, ◌+◌, ◌-◌, ◌*◌, ◌^◌, ◌<◌, ◌≤◌, suc, true, false, ◌&&◌, leb, List, [], ◌∷◌, length, Option, Some, None, MatchOption, Ok, Err, Result, MatchResult, inl, inr, refl, sym, ◌∙◌, subst, ap, arith}
 use denote.Param.Members.{Mut, Called}
 use denote.Ref.{Bor}
 use borrow.Author.Tests.{clash}
@@ -13,7 +13,7 @@ use Rattle.std.specs.declared.slice.Iter.{Iter}
 use Rattle.std.specs.Result.{OkIff}
 use Rattle.std.specs.Str.{all_ascii_digits}
 use Rattle.std.specs.declared.num.TryFromIntError.{TryFromIntError}
-use Rattle.std.proofs.lemmas.Bool.{MatchBool-at_true, MatchBool-at_false, cases_Bool, false_from_ne_true, ltb-true, lt-ltb, leb-true, le-leb}
+use Rattle.std.proofs.lemmas.Bool.{MatchBool-at_true, MatchBool-at_false, cases_Bool, false_from_ne_true, lt-ltb, leb-true, le-leb}
 use Rattle.job.specs.Numbers.{plain, number_after, decimal_of, Reads}
 use Rattle.job.specs.declared.wrong.Wrong.{Wrong}
 use Rattle.job.specs.declared.wrong.Wrong.TheVariants.{NumberTooLarge, NotANumber}

@@ -1,4 +1,4 @@
-use Rattle.std.proofs.Common.{◌≡◌, ◌<◌, true, nat_lt, Ok, Err, MatchResult, subst, rules, arith}
+use Rattle.std.proofs.Common.{◌≡◌, true, nat_lt, Ok, Err, MatchResult, subst, rules, arith}
 use Rattle.std.proofs.lemmas.Bool.{lt-ltb}
 use Rattle.job.specs.Numbers.{plain, number_after}
 use Rattle.job.specs.declared.wrong.Wrong.TheVariants.{NumberTooLarge}
