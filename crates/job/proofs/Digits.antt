@@ -14,7 +14,7 @@ use Rattle.std.specs.Result.{OkIff}
 use Rattle.std.specs.Str.{all_ascii_digits}
 use Rattle.std.specs.declared.num.TryFromIntError.{TryFromIntError}
 use Rattle.std.proofs.lemmas.Bool.{MatchBool-at_true, MatchBool-at_false, cases_Bool, false_from_ne_true, lt-ltb, leb-true, le-leb}
-use Rattle.job.specs.Numbers.{plain, number_after, decimal_of, Reads}
+use Rattle.job.specs.Numbers.{plain, number_after, decimal_of, Fits}
 use Rattle.job.specs.declared.wrong.Wrong.{Wrong}
 use Rattle.job.specs.declared.wrong.Wrong.TheVariants.{NumberTooLarge, NotANumber}
 
@@ -78,7 +78,7 @@ module _ (k most : ℕ) (fits : 2 ^ k ≡ suc most) (small : most < 184467440737
       cc
   fitted_as (Err x) p c e = let large : leb (number_after 0 w) most ≡ false = false_from_ne_true _ (λ f. c (omega (arith, leb-true _ _ f))) in cc
 
-  as_decimal : Reads (Converts k) w r → r ≡ decimal_of w most
+  as_decimal : Fits (Converts k) w r → r ≡ decimal_of w most
   as_decimal h =
       elim (cases_Bool (plain w)) [
         | inl p ↦
@@ -92,11 +92,11 @@ module _ (k most : ℕ) (fits : 2 ^ k ≡ suc most) (small : most < 184467440737
         | inr n ↦ let e : r ≡ Err NotANumber = MatchBool-at_false _ _ n h in cc
       ]
 
-pub as_u8 : (w : List ℕ) (r : Result ℕ Wrong) → Reads (Converts 8) w r → r ≡ decimal_of w 255
+pub as_u8 : (w : List ℕ) (r : Result ℕ Wrong) → Fits (Converts 8) w r → r ≡ decimal_of w 255
 as_u8 w r h = as_decimal 8 255 refl (omega arith) w r h
 
-pub as_u16 : (w : List ℕ) (r : Result ℕ Wrong) → Reads (Converts 16) w r → r ≡ decimal_of w 65535
+pub as_u16 : (w : List ℕ) (r : Result ℕ Wrong) → Fits (Converts 16) w r → r ≡ decimal_of w 65535
 as_u16 w r h = as_decimal 16 65535 refl (omega arith) w r h
 
-pub as_u64 : (w : List ℕ) (r : Result ℕ Wrong) → Reads (Converts 64) w r → r ≡ decimal_of w 18446744073709551615
+pub as_u64 : (w : List ℕ) (r : Result ℕ Wrong) → Fits (Converts 64) w r → r ≡ decimal_of w 18446744073709551615
 as_u64 w r h = as_decimal 64 18446744073709551615 refl (omega arith) w r h

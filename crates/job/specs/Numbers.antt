@@ -17,9 +17,14 @@ number_after n (b ∷ bs) = number_after (10 * n + (b - 48)) bs
 abbrev pub decimal_of : List ℕ → ℕ → Result ℕ Wrong
 decimal_of w most = cond (plain w) (cond (nat_le (number_after 0 w) most) (Ok (number_after 0 w)) (Err NumberTooLarge)) (Err NotANumber)
 
--- what becomes of a word whose number is made to fit its type as `gives` says: what has more than 64 bits, or does not fit, is too large
-abbrev pub Reads : {T E : Type 0} → (ℕ → Result T E → Type 0) → List ℕ → Result T Wrong → Type 0
+-- what becomes of a word where its digits are read as `gives` says: what is not read is too large
+abbrev pub Reads : {T E : Type 0} → (List ℕ → Result T E → Type 0) → List ℕ → Result T Wrong → Type 0
 Reads {E = E} gives w r =
+    MatchBool (plain w) ((read : Result _ E) × gives w read × MatchResult read (λ n. r ≡ Ok n) (λ e. r ≡ Err NumberTooLarge)) (r ≡ Err NotANumber)
+
+-- what becomes of a word whose number is made to fit its type as `gives` says: what has more than 64 bits, or does not fit, is too large
+abbrev pub Fits : {T E : Type 0} → (ℕ → Result T E → Type 0) → List ℕ → Result T Wrong → Type 0
+Fits {E = E} gives w r =
     MatchBool (plain w) (MatchBool (nat_lt (number_after 0 w) 18446744073709551616)
     ((fitted : Result _ E) × gives (number_after 0 w) fitted × MatchResult fitted (λ n. r ≡ Ok n) (λ e. r ≡ Err NumberTooLarge))
     (r ≡ Err NumberTooLarge)) (r ≡ Err NotANumber)

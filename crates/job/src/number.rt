@@ -1,14 +1,14 @@
 // Numbers as a job writes them: decimal digits and nothing else.
 ghost use Rattle.std.specs.Prelude.{◌≡◌, ◌≤◌, ◌^◌, MatchOption};
-ghost use Rattle.job.specs.Numbers.{plain, number_after, Reads};
+ghost use Rattle.job.specs.Numbers.{plain, number_after, Fits};
 
 use super::wrong::Wrong;
 
-// The number that a word writes, if it fits its type. Zeros in front change nothing.
+// The number that a word writes, if it fits its type and 64 bits. Zeros in front change nothing.
 pub fn decimal<T: TryFrom<u128>>(word: &[u8]) -> Result<T, Wrong>
 where
     T::Error: Drop,
-    ensures { Reads T.try_from_gives word.now result }
+    ensures { Fits T.try_from_gives word.now result }
 {
     if !is_plain(word) {
         return Err(Wrong::NotANumber);
@@ -25,7 +25,7 @@ fn is_plain(word: &[u8]) -> bool
 }
 
 // The number that digits write, if it has 64 bits. Digit by digit, since with std's `parse`, which reads a `str`, a job of
-// nodes takes a fifth longer (docs/DESIGN-PASS.md).
+// nodes takes a fifth longer (docs/DECISIONS.md).
 fn number_of(digits: &[u8]) -> Option<u64>
     ensures { MatchOption result (2 ^ 64 ≤ number_after 0 digits.now) (λ n. n ≡ number_after 0 digits.now) }
 {
