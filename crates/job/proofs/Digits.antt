@@ -1,8 +1,7 @@
 -- The number that digits write, digit by digit, and as a number of so many bits.
-use Rattle.std.proofs.Common.{nat_lt, ◌≡◌, ℕ, ◌+◌, ◌-◌, ◌*◌, ◌^◌, ◌<◌, ◌≤◌, suc, true, false, ◌&&◌, leb, List, [], ◌∷◌, length, Option, Some, None, MatchOption, Ok, Err, Result, MatchResult, inl, inr, refl, sym, ◌∙◌, subst, ap, arith}
+use Rattle.std.proofs.Common.{◌≡◌, ℕ, ◌+◌, ◌-◌, ◌*◌, ◌^◌, ◌<◌, ◌≤◌, suc, true, false, ◌&&◌, leb, List, [], ◌∷◌, length, Option, Some, None, MatchOption, Ok, Err, Result, MatchResult, inl, inr, refl, sym, subst, ap, arith}
 use denote.Param.Members.{Mut, Called}
 use denote.Ref.{Bor}
-use borrow.Author.Tests.{clash}
 use Rattle.std.specs.Char.{is_ascii_digit}
 use Rattle.std.specs.ControlFlow.{continue_value}
 use Rattle.std.specs.declared.ops.ControlFlow.{ControlFlow}
@@ -13,8 +12,8 @@ use Rattle.std.specs.declared.slice.Iter.{Iter}
 use Rattle.std.specs.Result.{OkIff}
 use Rattle.std.specs.Str.{all_ascii_digits}
 use Rattle.std.specs.declared.num.TryFromIntError.{TryFromIntError}
-use Rattle.std.proofs.lemmas.Bool.{MatchBool-at_true, MatchBool-at_false, cases_Bool, false_from_ne_true, lt-ltb, leb-true, le-leb}
-use Rattle.job.specs.Numbers.{plain, number_after, decimal_of, Fits}
+use Rattle.std.proofs.lemmas.Bool.{MatchBool-at_true, MatchBool-at_false, cases_Bool, false_from_ne_true, leb-true, le-leb}
+use Rattle.job.specs.Numbers.{plain, number_after, decimal_of, Fits, Reads}
 use Rattle.job.specs.declared.wrong.Wrong.{Wrong}
 use Rattle.job.specs.declared.wrong.Wrong.TheVariants.{NumberTooLarge, NotANumber}
 
@@ -66,37 +65,37 @@ module _ {F : Type 0} (E : Type 0) (g : Mut F (ℕ × (Bor ℕ × Unit {0})) (Op
       let more : number_after a (iter_rest t) ≡ number_after a (x.now ∷ iter_rest u) = ap (number_after a) l in
       rw n (omega (arith, w.1, more, big, grows (10 * a + (x.now - 48)) (iter_rest u)))
 
+-- the answer by a number of 64 bits, made to fit a type
+pub fitted : {T E : Type 0} (gives : ℕ → Result T E → Type 0) (w : List ℕ) (f : Result T E) (r : Result T Wrong) → number_after 0 w < 2 ^ 64 → gives (number_after 0 w) f →
+    MatchResult f (λ n. r ≡ Ok n) (λ e. r ≡ Err NumberTooLarge) → (read : Result T (Option E)) × Fits gives w read × MatchResult read (λ n. r ≡ Ok n) (λ e. r ≡ Err NumberTooLarge)
+fitted gives w (Ok n) r small g e = (Ok n, (small, g), e)
+fitted gives w (Err x) r small g e = (Err (Some x), (small, g), e)
+
 -- what std says of a number's conversion to the unsigned type of k bits
 abbrev pub Converts : ℕ → ℕ → Result ℕ TryFromIntError → Type 0
 Converts k n r = OkIff r (n < 2 ^ k) n
 
 module _ (k most : ℕ) (fits : 2 ^ k ≡ suc most) (small : most < 18446744073709551616) (w : List ℕ) (r : Result ℕ Wrong) where
-  fitted_as : (f : Result ℕ TryFromIntError) → plain w ≡ true → Converts k (number_after 0 w) f → MatchResult f (λ n. r ≡ Ok n) (λ e. r ≡ Err NumberTooLarge) → r ≡ decimal_of w most
-  fitted_as (Ok n) p c e =
-      let within : leb (number_after 0 w) most ≡ true = le-leb _ _ (omega (arith, c.0)) in
-      let same = c.1 in
+  fitted_as : (read : Result ℕ (Option TryFromIntError)) → plain w ≡ true → Fits (Converts k) w read → MatchResult read (λ n. r ≡ Ok n) (λ e. r ≡ Err NumberTooLarge) → r ≡ decimal_of w most
+  fitted_as (Ok n) p f e =
+      let within : leb (number_after 0 w) most ≡ true = le-leb _ _ (omega (arith, f.1.0)) in
+      let same = f.1.1 in
       cc
-  fitted_as (Err x) p c e = let large : leb (number_after 0 w) most ≡ false = false_from_ne_true _ (λ f. c (omega (arith, leb-true _ _ f))) in cc
+  fitted_as (Err None) p f e = let large : leb (number_after 0 w) most ≡ false = false_from_ne_true _ (λ t. omega (arith, f, leb-true _ _ t)) in cc
+  fitted_as (Err (Some x)) p f e = let large : leb (number_after 0 w) most ≡ false = false_from_ne_true _ (λ t. f.1 (omega (arith, leb-true _ _ t))) in cc
 
-  as_decimal : Fits (Converts k) w r → r ≡ decimal_of w most
+  as_decimal : Reads (Fits (Converts k)) w r → r ≡ decimal_of w most
   as_decimal h =
       elim (cases_Bool (plain w)) [
-        | inl p ↦
-            elim (cases_Bool (nat_lt (number_after 0 w) 18446744073709551616)) [
-              | inl s ↦ let at = MatchBool-at_true _ _ s (MatchBool-at_true _ _ p h) in fitted_as at.0 p at.1 at.2
-              | inr l ↦
-                  let e : r ≡ Err NumberTooLarge = MatchBool-at_false _ _ l (MatchBool-at_true _ _ p h) in
-                  let large : leb (number_after 0 w) most ≡ false = false_from_ne_true _ (λ f. clash (sym l ∙ lt-ltb _ _ (omega (arith, leb-true _ _ f)))) in
-                  cc
-            ]
+        | inl p ↦ let at = MatchBool-at_true _ _ p h in fitted_as at.0 p at.1 at.2
         | inr n ↦ let e : r ≡ Err NotANumber = MatchBool-at_false _ _ n h in cc
       ]
 
-pub as_u8 : (w : List ℕ) (r : Result ℕ Wrong) → Fits (Converts 8) w r → r ≡ decimal_of w 255
+pub as_u8 : (w : List ℕ) (r : Result ℕ Wrong) → Reads (Fits (Converts 8)) w r → r ≡ decimal_of w 255
 as_u8 w r h = as_decimal 8 255 refl (omega arith) w r h
 
-pub as_u16 : (w : List ℕ) (r : Result ℕ Wrong) → Fits (Converts 16) w r → r ≡ decimal_of w 65535
+pub as_u16 : (w : List ℕ) (r : Result ℕ Wrong) → Reads (Fits (Converts 16)) w r → r ≡ decimal_of w 65535
 as_u16 w r h = as_decimal 16 65535 refl (omega arith) w r h
 
-pub as_u64 : (w : List ℕ) (r : Result ℕ Wrong) → Fits (Converts 64) w r → r ≡ decimal_of w 18446744073709551615
+pub as_u64 : (w : List ℕ) (r : Result ℕ Wrong) → Reads (Fits (Converts 64)) w r → r ≡ decimal_of w 18446744073709551615
 as_u64 w r h = as_decimal 64 18446744073709551615 refl (omega arith) w r h

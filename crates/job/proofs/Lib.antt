@@ -1,4 +1,3 @@
 pub mod Bounds
 pub mod Digits
-pub mod Parsed
 pub mod Runs

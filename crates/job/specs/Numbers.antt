@@ -1,5 +1,5 @@
 -- The number that a word writes in decimal digits.
-use Rattle.std.specs.Prelude.{◌≡◌, ℕ, ◌+◌, ◌-◌, ◌*◌, Bool, cond, ◌&&◌, List, [], ◌∷◌, length, Ok, Err, Result, nat_le, nat_lt, MatchBool, MatchResult}
+use Rattle.std.specs.Prelude.{◌≡◌, ◌<◌, ◌≤◌, ℕ, ◌+◌, ◌-◌, ◌*◌, ◌^◌, Bool, cond, ◌&&◌, List, [], ◌∷◌, length, Ok, Err, Result, nat_le, nat_lt, Option, MatchBool, MatchOption, MatchResult}
 use Rattle.std.specs.Str.{all_ascii_digits}
 use Rattle.job.specs.declared.wrong.Wrong.{Wrong}
 use Rattle.job.specs.declared.wrong.Wrong.TheVariants.{NotANumber, NumberTooLarge}
@@ -22,9 +22,8 @@ abbrev pub Reads : {T E : Type 0} → (List ℕ → Result T E → Type 0) → L
 Reads {E = E} gives w r =
     MatchBool (plain w) ((read : Result _ E) × gives w read × MatchResult read (λ n. r ≡ Ok n) (λ e. r ≡ Err NumberTooLarge)) (r ≡ Err NotANumber)
 
--- what becomes of a word whose number is made to fit its type as `gives` says: what has more than 64 bits, or does not fit, is too large
-abbrev pub Fits : {T E : Type 0} → (ℕ → Result T E → Type 0) → List ℕ → Result T Wrong → Type 0
-Fits {E = E} gives w r =
-    MatchBool (plain w) (MatchBool (nat_lt (number_after 0 w) 18446744073709551616)
-    ((fitted : Result _ E) × gives (number_after 0 w) fitted × MatchResult fitted (λ n. r ≡ Ok n) (λ e. r ≡ Err NumberTooLarge))
-    (r ≡ Err NumberTooLarge)) (r ≡ Err NotANumber)
+-- how digits are read where their number is made to fit a type as `gives` says; one of more than 64 bits is not read, with no error of the type
+abbrev pub Fits : {T E : Type 0} → (ℕ → Result T E → Type 0) → List ℕ → Result T (Option E) → Type 0
+Fits gives w read =
+    MatchResult read (λ n. (number_after 0 w < 2 ^ 64) × gives (number_after 0 w) (Ok n))
+    (λ error. MatchOption error (2 ^ 64 ≤ number_after 0 w) (λ e. (number_after 0 w < 2 ^ 64) × gives (number_after 0 w) (Err e)))

@@ -1,6 +1,6 @@
 // Numbers as a job writes them: decimal digits and nothing else.
 ghost use Rattle.std.specs.Prelude.{◌≡◌, ◌≤◌, ◌^◌, MatchOption};
-ghost use Rattle.job.specs.Numbers.{plain, number_after, Fits};
+ghost use Rattle.job.specs.Numbers.{plain, number_after, Fits, Reads};
 
 use super::wrong::Wrong;
 
@@ -8,7 +8,7 @@ use super::wrong::Wrong;
 pub fn decimal<T: TryFrom<u128>>(word: &[u8]) -> Result<T, Wrong>
 where
     T::Error: Drop,
-    ensures { Fits T.try_from_gives word.now result }
+    ensures { Reads (Fits T.try_from_gives) word.now result }
 {
     if !is_plain(word) {
         return Err(Wrong::NotANumber);
