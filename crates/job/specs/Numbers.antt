@@ -1,5 +1,5 @@
 -- The number that a word writes in decimal digits.
-use Rattle.std.specs.Prelude.{◌≡◌, ◌<◌, ◌≤◌, ℕ, ◌+◌, ◌-◌, ◌*◌, ◌^◌, Bool, cond, ◌&&◌, List, [], ◌∷◌, length, Ok, Err, Result, nat_le, nat_lt, Option, MatchBool, MatchOption, MatchResult}
+use Rattle.std.specs.Prelude.{◌≡◌, ◌<◌, ◌≤◌, ℕ, ◌+◌, ◌-◌, ◌*◌, ◌^◌, Bool, cond, ◌&&◌, List, [], ◌∷◌, length, Option, Some, None, Ok, Err, Result, nat_le, nat_lt, MatchBool, MatchResult}
 use Rattle.std.specs.Str.{all_ascii_digits}
 use Rattle.job.specs.declared.wrong.Wrong.{Wrong}
 use Rattle.job.specs.declared.wrong.Wrong.TheVariants.{NotANumber, NumberTooLarge}
@@ -24,6 +24,6 @@ Reads {E = E} gives w r =
 
 -- how digits are read where their number is made to fit a type as `gives` says; one of more than 64 bits is not read, with no error of the type
 abbrev pub Fits : {T E : Type 0} → (ℕ → Result T E → Type 0) → List ℕ → Result T (Option E) → Type 0
-Fits gives w read =
-    MatchResult read (λ n. (number_after 0 w < 2 ^ 64) × gives (number_after 0 w) (Ok n))
-    (λ error. MatchOption error (2 ^ 64 ≤ number_after 0 w) (λ e. (number_after 0 w < 2 ^ 64) × gives (number_after 0 w) (Err e)))
+Fits gives w (Ok n) = (number_after 0 w < 2 ^ 64) × gives (number_after 0 w) (Ok n)
+Fits gives w (Err (Some e)) = (number_after 0 w < 2 ^ 64) × gives (number_after 0 w) (Err e)
+Fits gives w (Err None) = 2 ^ 64 ≤ number_after 0 w
